@@ -1,0 +1,5 @@
+pub mod Meaning
+pub mod Faithful
+pub mod Same
+pub mod Moves
+pub mod OneState
