@@ -5,3 +5,6 @@ pub mod Codec
 pub mod Passed
 pub mod Inverse
 pub mod View
+pub mod Faithful
+pub mod Places
+pub mod Questions

@@ -117,7 +117,7 @@ row-climbs n low place (t ∷ ts) e =
 rows-rise : (n place last : ℕ) (cs ts : List ℕ) → Rises last cs → last-of last cs ≤ last + length ts → rows-check n place (dealt last cs ts) ≡ Ok tt → Rising n (dealt last cs ts)
 rows-rise n place last [] ts r h e = tt
 rows-rise n place last (c ∷ cs) ts (l, r) h e =
-    let p = then-ok _ _ e in
+    let p = then-ok (row-check n 0 place (take (c - last) ts)) _ e in
     let up = rises-to c cs r in
     let long = length-take-le (c - last) ts (omega arith) in
     (omega arith, row-climbs n 0 place (take (c - last) ts) (p .0), rows-rise n (place + 2 * length (take (c - last) ts)) c cs (drop (c - last) ts) r (simp length-drop (omega arith)) (p .1))

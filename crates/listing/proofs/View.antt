@@ -18,7 +18,7 @@ use Rattle.fault.specs.Faults.{fault}
 use Rattle.listing.specs.declared.Parts.{Parts}
 use Rattle.listing.specs.Listed.{Listed}
 use Rattle.listing.specs.Read.{table-of, count-bytes, target-bytes, body-check, given, read-of}
-use Rattle.listing.specs.Parts.{viewed, passed, Cut, Formed}
+use Rattle.listing.specs.Parts.{viewed, passed, is-ok, passes, Cut, Formed}
 
 -- Anything told of a body's four parts is told of the parts' own.
 at-parts : {A : Type 0} (F : ℕ → ℕ → ℕ → List ℕ → A) (n a b : ℕ) (rest : List ℕ) (p : Parts) → Cut n a b rest p → F (p .states) (p .atoms) (p .«fairness_sets») (now (p .body)) ≡ F n a b rest
@@ -29,8 +29,9 @@ view-of (Ok p) n a b rest e cut = ap Ok (at-parts table-of n a b rest p cut) ∙
 view-of (Err f) n a b rest e cut = ap (λ c. given c (table-of n a b rest)) e
 
 pub formed-of : (r : Result Parts Fault) (n a b : ℕ) (rest : List ℕ) → passed r ≡ body-check n a b rest → made r (λ p. Cut n a b rest p) → made r Formed
+unfolding passes
 formed-of (Ok p) n a b rest e cut = record {
-  passed = at-parts body-check n a b rest p cut ∙ sym e;
+  passed = ap is-ok (at-parts body-check n a b rest p cut ∙ sym e);
   counts = cut .counts ∙ sym (at-parts count-bytes n a b rest p cut);
   targets = cut .targets ∙ sym (at-parts target-bytes n a b rest p cut);
 }

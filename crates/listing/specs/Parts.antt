@@ -1,5 +1,6 @@
 -- A section cut into its parts, as the reader answers it.
 use mathlib.Core.Path.{_≡_}
+use mathlib.Core.Bool.{Bool, true, false}
 use mathlib.Core.List.{List, [], _∷_}
 use Prim.Native.Nat.{ℕ, suc, _+_, _*_, _-_, _≤_}
 use denote.Ref.{now}
@@ -20,11 +21,25 @@ abbrev pub viewed : Result Parts Fault → Result Listed Fault
 viewed (Ok p) = Ok (listed-in p)
 viewed (Err e) = Err e
 
--- The parts pass every check, and the bytes of the counts and the targets are those of the body.
+-- The parts pass every check; the bytes of the counts and of the targets, as the body has them.
+abbrev pub is-ok : Checked → Bool
+is-ok (Ok u) = true
+is-ok (Err e) = false
+
+unfoldable pub passes : Parts → Bool
+passes p = is-ok (body-check (p .states) (p .atoms) (p .«fairness_sets») (now (p .body)))
+
+abbrev pub counts-in : Parts → List ℕ
+counts-in p = count-bytes (p .states) (p .atoms) (p .«fairness_sets») (now (p .body))
+
+abbrev pub targets-in : Parts → List ℕ
+targets-in p = target-bytes (p .states) (p .atoms) (p .«fairness_sets») (now (p .body))
+
+-- Parts that were read.
 pub record Formed (p : Parts) : Type 0 where
-  pub passed : body-check (p .states) (p .atoms) (p .«fairness_sets») (now (p .body)) ≡ Ok tt
-  pub counts : now (p .counts) ≡ count-bytes (p .states) (p .atoms) (p .«fairness_sets») (now (p .body))
-  pub targets : now (p .targets) ≡ target-bytes (p .states) (p .atoms) (p .«fairness_sets») (now (p .body))
+  pub passed : passes p ≡ true
+  pub counts : now (p .counts) ≡ counts-in p
+  pub targets : now (p .targets) ≡ targets-in p
 
 -- The parts of a body with these counts.
 pub record Cut (n a b : ℕ) (rest : List ℕ) (p : Parts) : Type 0 where

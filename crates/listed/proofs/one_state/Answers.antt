@@ -1,0 +1,7 @@
+use mathlib.Core.Path.{refl}
+use Rattle.listing.specs.Parts.{passes}
+use Rattle.listed.proofs.one_state.Needs as need
+
+pub returns : need.returns
+unfolding passes
+returns c = record { passed = refl; counts = refl; targets = refl; table = refl }

@@ -1,0 +1,7 @@
+use mathlib.Core.Path.{sym, _∙_}
+use borrow.Author.Needs.{needs}
+use Rattle.listing.proofs.Places.{u16-at}
+use Rattle.listed.proofs.u16_at.Needs as need
+
+pub returns : need.returns
+returns c = c .from-le-bytes .ensures ∙ sym (u16-at (c .args .bytes .now) (c .args .i) (c .pre))

@@ -1,0 +1,158 @@
+// Listed tables: a table whose moves are listed one by one in the bytes of a section.
+ghost use denote.Ref.{now};
+ghost use mathlib.Core.Bool.{true, false};
+ghost use mathlib.Core.List.{List, [], _∷_};
+ghost use mathlib.Core.Path.{_≡_};
+ghost use Prim.Native.Nat.{ℕ, suc, _+_, _*_, _<_, _≤_};
+ghost use lib.ListN.{length, getD};
+ghost use Rattle.listing.specs.Numbers.{u16s};
+ghost use Rattle.listing.specs.Sets.{width, sets-of};
+ghost use Rattle.listing.specs.Listed.{meaning-of, targets-of, one-listed};
+ghost use Rattle.listing.specs.Read.{read-of};
+ghost use Rattle.listing.specs.Parts.{listed-in, passes, counts-in, targets-in};
+ghost use Rattle.listing.proofs.Faithful.{parts-faithful};
+ghost use Rattle.listed.specs.Kind.{table-or-one, fault-in};
+use fault::Fault;
+use listing::Parts;
+use listing::read;
+use table::Table;
+
+// A table for any bytes: the one that a section lays out, or the one-state table where the section is refused.
+#[derive(Clone, Copy)]
+pub struct Listed<'a> {
+    parts: Parts<'a>,
+    fault: Option<Fault>,
+    ghost passed: { passes parts ≡ true },
+    ghost counted: { now (parts .counts) ≡ counts-in parts },
+    ghost targeted: { now (parts .targets) ≡ targets-in parts },
+}
+
+// One start state that moves to itself, without atoms, its one fairness set full.
+fn one_state() -> Parts<'static>
+    ensures passed { λ r. ⌜ passes r ≡ true ⌝ }
+    ensures counts { λ r. ⌜ now (r .counts) ≡ counts-in r ⌝ }
+    ensures targets { λ r. ⌜ now (r .targets) ≡ targets-in r ⌝ }
+    ensures table { λ r. ⌜ listed-in r ≡ one-listed ⌝ }
+{
+    Parts {
+        states: 1,
+        atoms: 0,
+        fairness_sets: 1,
+        body: &[1, 1, 1, 0, 0, 0],
+        counts: &[1, 0],
+        targets: &[0, 0],
+    }
+}
+
+impl<'a> Listed<'a> {
+    // The table of a section.
+    pub fn of(section: &'a [u8]) -> Listed<'a>
+        ensures table { λ r. ⌜ listed-in (r .parts) ≡ table-or-one (read-of (now (section .entry))) ⌝ }
+        ensures fault { λ r. ⌜ r .fault ≡ fault-in (read-of (now (section .entry))) ⌝ }
+    {
+        match read(section) {
+            Ok(parts) => Listed { parts, fault: None },
+            Err(fault) => Listed { parts: one_state(), fault: Some(fault) },
+        }
+    }
+
+    // Whether s is in set j of the section: the start set, then the atoms, then the fairness sets.
+    fn in_set(&self, j: usize, s: usize) -> bool
+        requires { ⌜ j < suc (now self .parts .atoms + now self .parts .«fairness_sets») ⌝ }
+        ensures { λ r. ⌜ r ≡ getD (getD (sets-of (now (self .entry) .parts .states) (width (now (self .entry) .parts .states)) (suc (now (self .entry) .parts .atoms + now (self .entry) .parts .«fairness_sets»)) (now (now (self .entry) .parts .body))) j []) s false ⌝ }
+    {
+        if s >= self.parts.states {
+            return false;
+        }
+        let width = (self.parts.states + 7) / 8;
+        let from = j * width;
+        stateset::contains(&self.parts.body[from..from + width], s)
+    }
+
+    // How many moves the states up to and with s have.
+    fn moves_through(&self, s: usize) -> usize
+        requires { ⌜ s < now self .parts .states ⌝ }
+        ensures { λ r. ⌜ r ≡ getD (u16s (counts-in (now (self .entry) .parts))) s 0 ⌝ }
+    {
+        u16_at(self.parts.counts, s)
+    }
+
+    // How many moves the states below s have.
+    fn moves_before(&self, s: usize) -> usize
+        requires { ⌜ s < now self .parts .states ⌝ }
+        ensures { λ r. ⌜ r ≡ getD (0 ∷ u16s (counts-in (now (self .entry) .parts))) s 0 ⌝ }
+    {
+        if s == 0 { 0 } else { self.moves_through(s - 1) }
+    }
+
+    // Why the section was refused, if it was; the place is an offset in the section.
+    pub fn fault(&self) -> Option<Fault>
+        ensures { λ r. ⌜ r ≡ now (self .entry) .fault ⌝ }
+    {
+        self.fault
+    }
+}
+
+// Number i of a row of 16-bit numbers.
+fn u16_at(bytes: &[u8], i: usize) -> usize
+    requires { ⌜ 2 * i + 1 < length (now bytes) ⌝ }
+    ensures { λ r. ⌜ r ≡ getD (u16s (now (bytes .entry))) i 0 ⌝ }
+{
+    u16::from_le_bytes([bytes[2 * i], bytes[2 * i + 1]]) as usize
+}
+
+pub impl<'a> Table for Listed<'a> as ListedTable {
+    ghost meaning = { λ t. meaning-of (listed-in (t .parts)) };
+
+    ghost targets = { λ t. targets-of (listed-in (t .parts)) };
+
+    ghost faithful = { λ t. parts-faithful (t .parts) (t .passed) };
+
+    fn states(&self) -> usize {
+        self.parts.states
+    }
+
+    fn atoms(&self) -> usize {
+        self.parts.atoms
+    }
+
+    fn fairness_sets(&self) -> usize {
+        self.parts.fairness_sets
+    }
+
+    fn is_start(&self, s: usize) -> bool {
+        self.in_set(0, s)
+    }
+
+    fn in_atom(&self, j: usize, s: usize) -> bool {
+        if j >= self.parts.atoms {
+            return false;
+        }
+        self.in_set(1 + j, s)
+    }
+
+    fn in_fairness_set(&self, i: usize, s: usize) -> bool {
+        if i >= self.parts.fairness_sets {
+            return false;
+        }
+        self.in_set(1 + self.parts.atoms + i, s)
+    }
+
+    fn move_count(&self, s: usize) -> usize {
+        if s >= self.parts.states {
+            return 0;
+        }
+        self.moves_through(s) - self.moves_before(s)
+    }
+
+    fn target(&self, s: usize, k: usize) -> usize {
+        if s >= self.parts.states {
+            return 0;
+        }
+        let before = self.moves_before(s);
+        if k >= self.moves_through(s) - before {
+            return 0;
+        }
+        u16_at(self.parts.targets, before + k)
+    }
+}
