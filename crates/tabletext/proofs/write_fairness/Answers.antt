@@ -1,0 +1,16 @@
+use mathlib.Core.Path.{ap}
+use native.Mathlib.Omega.{arith}
+use Rattle.std.specs.Results.{isOk}
+use Rattle.tabletext.proofs.Writing.{each-none, each-more, each-all}
+use Rattle.tabletext.proofs.write_fairness.Needs as need
+
+pub loop-i-holds : need.loop-i-holds
+loop-i-holds g c plain = each-none (g .W·Write .took) (c .args .f .now) _ plain
+
+pub loop-i-again : need.loop-i-again
+loop-i-again g c plain =
+    let before = c .loop-i .inv plain in
+    each-more (g .W·Write .took) _ _ _ (c .loop-i .i) _ before (c .write-set .ensures (before .plain) (ap isOk (c .in-Continue-write-set .was tt)))
+
+pub returns : need.returns
+returns g c plain ok = each-all (g .W·Write .took) _ _ _ _ _ (omega (arith, c .fairness-sets-i-end .ensures)) (c .loop-i .inv plain)
