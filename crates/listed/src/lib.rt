@@ -5,6 +5,10 @@ ghost use mathlib.Core.List.{List, [], _∷_};
 ghost use mathlib.Core.Path.{_≡_};
 ghost use Prim.Native.Nat.{ℕ, suc, _+_, _*_, _<_, _≤_};
 ghost use lib.ListN.{length, getD};
+ghost use Rattle.std.specs.Options.{Cases as BySome};
+ghost use Rattle.std.specs.declared.result.Result.the-variants.{Err};
+ghost use Rattle.table.specs.Same.{Same-meaning};
+ghost use Rattle.table.specs.OneState.{one-state};
 ghost use Rattle.listing.specs.Numbers.{u16s};
 ghost use Rattle.listing.specs.Sets.{width, sets-of};
 ghost use Rattle.listing.specs.Listed.{meaning-of, targets-of, one-listed};
@@ -49,10 +53,15 @@ impl<'a> Listed<'a> {
     pub fn of(section: &'a [u8]) -> Listed<'a>
         ensures table { λ r. ⌜ listed-in (r .parts) ≡ table-or-one (read-of (now (section .entry))) ⌝ }
         ensures fault { λ r. ⌜ r .fault ≡ fault-in (read-of (now (section .entry))) ⌝ }
+        ensures place { λ r. ⌜ BySome (r .fault) (Unit {0}) (λ e. e .place ≤ 65536) ⌝ }
+        ensures refused { λ r. ⌜ ((e : Fault) → read-of (now (section .entry)) ≡ Err e → Same-meaning (meaning-of (listed-in (r .parts))) one-state) ⌝ }
     {
         match read(section) {
             Ok(parts) => Listed { parts, fault: None },
-            Err(fault) => Listed { parts: one_state(), fault: Some(fault) },
+            Err(fault) => Listed {
+                parts: one_state(),
+                fault: Some(fault),
+            },
         }
     }
 

@@ -138,15 +138,18 @@ unpack-pack (suc k) s h =
     short more l =
         let front = bits-short s 8 (omega arith) in
         let t : take 8 s ≡ s = take-all 8 s (omega arith) in
-        let d : drop 8 s ≡ [] = drop-all 8 s (omega arith) in
-        (front .0 ++ more .0,
-         ap₂ (λ x y. bits 8 (number x) ++ y) t (more .1 ∙ ap (λ x. x ++ more .0) d) ∙ ap (λ x. x ++ more .0) (front .1) ∙ append-assoc s (front .0) (more .0),
-         none-append (front .0) (more .0) (front .2) (more .2))
+        let d : drop 8 s ≡ [] = drop-all 8 s (omega arith) in (
+          front .0 ++ more .0,
+          ap₂ (λ x y. bits 8 (number x) ++ y) t (more .1 ∙ ap (λ x. x ++ more .0) d) ∙ ap (λ x. x ++ more .0) (front .1) ∙ append-assoc s (front .0) (more .0),
+          none-append (front .0) (more .0) (front .2) (more .2),
+        )
+
     long : Padded (unpack (pack k (drop 8 s))) (drop 8 s) → 8 ≤ length s → Padded (bits 8 (number (take 8 s)) ++ unpack (pack k (drop 8 s))) s
-    long more l =
-        (more .0,
-         ap₂ (λ x y. x ++ y) (bits-number (take 8 s) 8 (length-take-le 8 s l)) (more .1) ∙ sym (append-assoc (take 8 s) (drop 8 s) (more .0)) ∙ ap (λ x. x ++ more .0) (take-append-drop 8 s),
-         more .2)
+    long more l = (
+      more .0,
+      ap₂ (λ x y. x ++ y) (bits-number (take 8 s) 8 (length-take-le 8 s l)) (more .1) ∙ sym (append-assoc (take 8 s) (drop 8 s) (more .0)) ∙ ap (λ x. x ++ more .0) (take-append-drop 8 s),
+      more .2,
+    )
 
 pub set-pack : (k : ℕ) (s : List Bool) → length s ≤ 8 * k → set-of (length s) (pack k s) ≡ s
 set-pack k s h = let u = unpack-pack k s h in ap (take (length s)) (u .1) ∙ take-at s (u .0) (length s) refl

@@ -78,8 +78,8 @@ module _ (t : Listed) (w : Lawful t) where
     few-fairs = w .few-fairs;
     some-start = some-flag (t .starts) (w .some-start);
     onward = λ s lt.
-      let row = row-of (t .size) (t .rows) (w .rising) s (omega (arith, w .row-each)) in
-      (getD (getD (t .rows) s []) 0 0, listed-at (getD (t .rows) s []) 0 (omega (arith, row .0)));
+        let row = row-of (t .size) (t .rows) (w .rising) s (omega (arith, w .row-each)) in
+        (getD (getD (t .rows) s []) 0 0, listed-at (getD (t .rows) s []) 0 (omega (arith, row .0)));
     inside = λ s u h. climbs-below (t .size) 0 (getD (t .rows) s []) (row-climbs (t .size) (t .rows) (w .rising) s) u h;
     from-inside = λ s u h. omega (arith, row-inside (t .rows) s u h, w .row-each);
     start-inside = λ s h. omega (arith, flag-inside (t .starts) s h, w .starts-sized);
@@ -92,9 +92,9 @@ module _ (t : Listed) (w : Lawful t) where
     proper = proper;
     exact = λ s u. refl;
     few = λ s.
-      let row = climbs-few (t .size) 0 (getD (t .rows) s []) (row-climbs (t .size) (t .rows) (w .rising) s) in
-      let one : 1 ≤ 16 ^ length (t .fairs) = pow-le-pow-right {n = 16} (omega arith) {i = 0} {j = length (t .fairs)} (omega arith) in
-      omega (arith, mul-le (t .size) 1 (t .size) (16 ^ length (t .fairs)) (omega arith) one);
+        let row = climbs-few (t .size) 0 (getD (t .rows) s []) (row-climbs (t .size) (t .rows) (w .rising) s) in
+        let one : 1 ≤ 16 ^ length (t .fairs) = pow-le-pow-right {n = 16} (omega arith) {i = 0} {j = length (t .fairs)} (omega arith) in
+        omega (arith, mul-le (t .size) 1 (t .size) (16 ^ length (t .fairs)) (omega arith) one);
   }
 
 -- The table of parts that pass is a table.

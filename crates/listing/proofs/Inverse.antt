@@ -53,8 +53,8 @@ body-back n a b rest bytes p =
     let room = p .room in
     let left = length-past (width n) (suc (a + b)) rest in
     ap₂ (λ ss ms. put-sets (width n) (set-of n (take (width n) rest) ∷ ss) ++ ms)
-      (take-append-drop a (others n a b rest))
-      (moves-back n (past (width n) (suc (a + b)) rest) (omega arith) (bytes-past (width n) (suc (a + b)) rest bytes) (p .rise) (p .fill))
+    (take-append-drop a (others n a b rest))
+    (moves-back n (past (width n) (suc (a + b)) rest) (omega arith) (bytes-past (width n) (suc (a + b)) rest bytes) (p .rise) (p .fill))
     ∙ put-sets-of n (width n) (suc (a + b)) rest (omega arith) bytes (p .fine)
 
 no-ok : {X : Type 0} (f : Fault) (x : X) → _≡_ {A = Result X Fault} (Err f) (Ok x) → ⊥
@@ -77,9 +77,10 @@ accepted-is-layout (x ∷ y ∷ a ∷ b ∷ rest) t (p, (q, (_, (_, bytes)))) e 
     let high : (x + y * 256) / 256 ≡ y = omega arith in
     let many = length-sets (x + y * 256) (width (x + y * 256)) (a + b) (drop (width (x + y * 256)) rest) in
     let atoms : length (take a (others (x + y * 256) a b rest)) ≡ a = length-take-le a (others (x + y * 256) a b rest) (omega arith) in
-    let fairs : length (drop a (others (x + y * 256) a b rest)) ≡ b = length-drop a (others (x + y * 256) a b rest) ∙ omega arith in
-    (ap encode (sym (g .1)) ∙ ap₂ (λ u us. u ∷ us) low (ap₂ (λ u us. u ∷ us) high (ap₂ (λ u us. u ∷ us) atoms (ap₂ (λ u us. u ∷ us) fairs (body-back (x + y * 256) a b rest bytes passed)))),
-     subst Lawful (g .1) (lawful-of (x + y * 256) a b rest passed))
+    let fairs : length (drop a (others (x + y * 256) a b rest)) ≡ b = length-drop a (others (x + y * 256) a b rest) ∙ omega arith in (
+      ap encode (sym (g .1)) ∙ ap₂ (λ u us. u ∷ us) low (ap₂ (λ u us. u ∷ us) high (ap₂ (λ u us. u ∷ us) atoms (ap₂ (λ u us. u ∷ us) fairs (body-back (x + y * 256) a b rest bytes passed)))),
+      subst Lawful (g .1) (lawful-of (x + y * 256) a b rest passed),
+    )
 
 -- A lawful table passes
 clear-sets : (n k m place : ℕ) (bs : List ℕ) → clears n k m bs ≡ true → sets-check n k m place bs ≡ Ok tt
@@ -149,14 +150,29 @@ body-read t w =
     let fill : length (target-bytes n a b (body t)) ≡ 2 * last-of 0 (u16s (count-bytes n a b (body t))) = ap length gs ∙ length-put16s ts ∙ ap (λ i. 2 * i) (sym (ap (last-of 0) es ∙ last-counts 0 (t .rows) ∙ omega arith)) in
     let passes : body-check n a b (body t) ≡ Ok tt = from-all (checks n a b (body t)) (
       true-need _ _ (and-from _ _ (le-leb 1 n (w .some-state)) (le-leb n 1024 (w .few-states))),
-      (true-need _ _ (le-leb a 16 (w .few-atoms)),
-      (true-need _ _ (and-from _ _ (le-leb 1 b (w .some-fair)) (le-leb b 4 (w .few-fairs))),
-      (true-need _ _ (le-leb (suc (a + b) * k + 2 * n) (length (body t)) (omega (arith, size))),
-      (clear-sets n k (suc (a + b)) 4 (body t) fine,
-      (ap (counts-check 0 (4 + suc (a + b) * k)) es ∙ counts-pass n 0 (4 + suc (a + b) * k) (t .rows) (w .rising) (omega (arith, w .few-moves)),
-      (true-need _ _ (eq-eqb (length (target-bytes n a b (body t))) (2 * last-of 0 (u16s (count-bytes n a b (body t)))) fill),
-      (ap (rows-check n (4 + suc (a + b) * k + 2 * n)) moves ∙ rows-pass n (4 + suc (a + b) * k + 2 * n) (t .rows) (w .rising),
-      (true-need _ _ (ap not (ap none first ∙ w .some-start)), tt))))))))) in
+      (
+        true-need _ _ (le-leb a 16 (w .few-atoms)),
+        (
+          true-need _ _ (and-from _ _ (le-leb 1 b (w .some-fair)) (le-leb b 4 (w .few-fairs))),
+          (
+            true-need _ _ (le-leb (suc (a + b) * k + 2 * n) (length (body t)) (omega (arith, size))),
+            (
+              clear-sets n k (suc (a + b)) 4 (body t) fine,
+              (
+                ap (counts-check 0 (4 + suc (a + b) * k)) es ∙ counts-pass n 0 (4 + suc (a + b) * k) (t .rows) (w .rising) (omega (arith, w .few-moves)),
+                (
+                  true-need _ _ (eq-eqb (length (target-bytes n a b (body t))) (2 * last-of 0 (u16s (count-bytes n a b (body t)))) fill),
+                  (
+                    ap (rows-check n (4 + suc (a + b) * k + 2 * n)) moves ∙ rows-pass n (4 + suc (a + b) * k + 2 * n) (t .rows) (w .rising),
+                    (true-need _ _ (ap not (ap none first ∙ w .some-start)), tt),
+                  ),
+                ),
+              ),
+            ),
+          ),
+        ),
+      ),
+    ) in
     ap₂ given passes same
 
 pub layout-is-accepted : Layout-is-accepted

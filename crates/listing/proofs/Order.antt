@@ -33,8 +33,8 @@ sets-part n k zero place bs = refl
 sets-part n k (suc m) place bs =
     let e : suc m * k ≡ k + m * k = omega (arith, suc-mul m k) in
     ap₂ (λ x y. cond (clear n x) (sets-check n k m (place + k) y) (Err (fault StrayBit place)))
-      (take-take k (suc m * k) bs (omega arith))
-      (ap (λ i. drop k (take i bs)) e ∙ drop-take k (m * k) bs)
+    (take-take k (suc m * k) bs (omega arith))
+    (ap (λ i. drop k (take i bs)) e ∙ drop-take k (m * k) bs)
     ∙ ap (λ r. cond (clear n (take k bs)) r (Err (fault StrayBit place))) (sets-part n k m (place + k) (drop k bs))
 
 module _ (n a b : ℕ) (rest : List ℕ) where
@@ -73,14 +73,14 @@ module _ (n a b : ℕ) (rest : List ℕ) where
       let w : width n ≡ width n - 0 = omega arith in
       let sets : sets-check n (width n) (suc (a + b)) 4 rest ≡ sets-made = ap (λ i. sets-check n (width n) i 4 rest) m ∙ sym (sets-part n (width n) (a + b + 1) 4 rest) ∙ ap (λ i. sets-check n (width n) (a + b + 1) 4 (take i rest)) z in
       let moves : first-of (move-checks n (4 + suc (a + b) * width n) (count-bytes n a b rest) (target-bytes n a b rest)) ≡ moves-made =
-          ap (λ i. first-of (move-checks n (4 + i * width n) (count-bytes n a b rest) (target-bytes n a b rest))) m
-          ∙ ap₂ (λ cs ts. first-of (move-checks n (4 + counts-from) cs ts)) (sym counts-are) (sym targets-are) in
+      ap (λ i. first-of (move-checks n (4 + i * width n) (count-bytes n a b rest) (target-bytes n a b rest))) m
+      ∙ ap₂ (λ cs ts. first-of (move-checks n (4 + counts-from) cs ts)) (sym counts-are) (sym targets-are) in
       let start : List Checked = need (not (none (set-of n (take (width n) rest)))) (fault NoStart 4) ∷ [] in
       let later : List Checked = move-checks n (4 + suc (a + b) * width n) (count-bytes n a b rest) (target-bytes n a b rest) in
       first-append (size-checks n a b (length rest)) (sets-check n (width n) (suc (a + b)) 4 rest ∷ (later ++ start))
       ∙ ap (then (first-of (size-checks n a b (length rest))))
-          (ap₂ then sets (first-append later start
-          ∙ ap₂ then moves (ap (λ i. then (need (not (none (set-of n (take i rest)))) (fault NoStart 4)) (Ok tt)) w)))
+      (ap₂ then sets (first-append later start
+      ∙ ap₂ then moves (ap (λ i. then (need (not (none (set-of n (take i rest)))) (fault NoStart 4)) (Ok tt)) w)))
 
 -- A check that stops, and one that lets the next go on.
 pub stop : (r s : Checked) (f : Fault) → r ≡ Err f → then r s ≡ Err f

@@ -39,6 +39,7 @@ unpack-bit (b ∷ bs) s = ⊎-elim low (high (unpack-bit bs (s - 8))) (cases-lt 
         let d : 0 ≡ s / 8 = omega arith in
         let m : s ≡ s % 8 = omega arith in
         getD-append-left (bits 8 b) (unpack bs) false s (omega (arith, length-bits 8 b)) ∙ bits-at 8 b s h ∙ ap₂ (λ i j. eqb (getD (b ∷ bs) i 0 / 2 ^ j % 2) 1) d m
+
     high : getD (unpack bs) (s - 8) false ≡ bit-at bs (s - 8) → 8 ≤ s → getD (bits 8 b ++ unpack bs) s false ≡ bit-at (b ∷ bs) s
     high more h =
         let d : suc ((s - 8) / 8) ≡ s / 8 = omega arith in
@@ -90,6 +91,7 @@ clear-split n (b ∷ bs) h small = ⊎-elim low (λ l. high l (clear-split (n - 
         ∙ none-append (drop n (bits 8 b)) (unpack bs)
         ∙ ap (λ f. f && none (unpack bs)) (ap none (drop-bits 8 n b (omega arith)) ∙ none-bits (8 - n) (b / 2 ^ n) (shr-below b (8 - n) n (rw (sym s) x)))
         ∙ ap₂ (λ i j. eqb (getD (b ∷ bs) i 0 / 2 ^ j) 0 && none (unpack (drop (i + 1) (b ∷ bs)))) d m
+
     high : 8 ≤ n
         → ((n - 8) / 8 < length bs → getD bs ((n - 8) / 8) 0 < 256 → clear (n - 8) bs ≡ (eqb (getD bs ((n - 8) / 8) 0 / 2 ^ ((n - 8) % 8)) 0 && none (unpack (drop ((n - 8) / 8 + 1) bs))))
         → clear n (b ∷ bs) ≡ (eqb (getD (b ∷ bs) (n / 8) 0 / 2 ^ (n % 8)) 0 && none (unpack (drop (n / 8 + 1) (b ∷ bs))))

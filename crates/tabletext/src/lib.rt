@@ -4,7 +4,19 @@ ghost use denote.Ref.{now};
 ghost use Rattle.std.specs.Written.{Prints};
 ghost use Rattle.std.specs.declared.option.Option.the-variants.{Some};
 ghost use Rattle.tabletext.specs.Text.{
-    spaced, member, name-text, member-text, members-text, set-line, targets-text, row-line, counts-text, atoms-text, fairness-text, rows-text, table-text,
+  spaced,
+  member,
+  name-text,
+  member-text,
+  members-text,
+  set-line,
+  targets-text,
+  row-line,
+  counts-text,
+  atoms-text,
+  fairness-text,
+  rows-text,
+  table-text,
 };
 use std::fmt;
 use table::Table;
@@ -48,7 +60,12 @@ fn write_spaced<W: fmt::Write>(x: usize, f: &mut fmt::Formatter<W>) -> fmt::Resu
 }
 
 // State s, if it is in the set.
-fn write_member<T: Table, W: fmt::Write>(table: &T, set: Set, s: usize, f: &mut fmt::Formatter<W>) -> fmt::Result
+fn write_member<T: Table, W: fmt::Write>(
+    table: &T,
+    set: Set,
+    s: usize,
+    f: &mut fmt::Formatter<W>,
+) -> fmt::Result
     ensures { λ r. ⌜ Prints (W·Write .took) (now (f .entry)) r (member-text (T·Table .meaning (now (table .entry))) «set» s) (now (f .exit)) ⌝ }
 {
     if is_member(table, set, s) {
@@ -58,7 +75,11 @@ fn write_member<T: Table, W: fmt::Write>(table: &T, set: Set, s: usize, f: &mut 
 }
 
 // The states of a set.
-fn write_members<T: Table, W: fmt::Write>(table: &T, set: Set, f: &mut fmt::Formatter<W>) -> fmt::Result
+fn write_members<T: Table, W: fmt::Write>(
+    table: &T,
+    set: Set,
+    f: &mut fmt::Formatter<W>,
+) -> fmt::Result
     ensures { λ r. ⌜ Prints (W·Write .took) (now (f .entry)) r (members-text (T·Table .meaning (now (table .entry))) «set») (now (f .exit)) ⌝ }
 {
     for s in 0..table.states() {
@@ -77,7 +98,11 @@ fn write_set<T: Table, W: fmt::Write>(table: &T, set: Set, f: &mut fmt::Formatte
 }
 
 // The targets of a state.
-fn write_targets<T: Table, W: fmt::Write>(table: &T, s: usize, f: &mut fmt::Formatter<W>) -> fmt::Result
+fn write_targets<T: Table, W: fmt::Write>(
+    table: &T,
+    s: usize,
+    f: &mut fmt::Formatter<W>,
+) -> fmt::Result
     ensures { λ r. ⌜ Prints (W·Write .took) (now (f .entry)) r (targets-text (T·Table .targets (now (table .entry)) s)) (now (f .exit)) ⌝ }
 {
     for k in 0..table.move_count(s) {
@@ -132,10 +157,14 @@ fn write_counts<T: Table, W: fmt::Write>(table: &T, f: &mut fmt::Formatter<W>) -
     let states = table.states();
     let atoms = table.atoms();
     let fairness = table.fairness_sets();
-    write!(f, "states {states}\natoms {atoms}\nfairness sets {fairness}\n")
+    write!(
+        f,
+        "states {states}\natoms {atoms}\nfairness sets {fairness}\n"
+    )
 }
 
 // A table of any kind, to be shown as text.
+#[derive(Drop)]
 pub struct TableText<'a, T> {
     pub table: &'a T,
 }

@@ -14,9 +14,12 @@ returns-in-Break-check-row c =
     let ts = c .loop-ends .left .now in
     let v = c .from-le-bytes-end .result in
     let f = fills-step (c .loop-ends .last) es (length ts) v (search needs) (search needs) (c .loop-ends .inv .1) in
-    let was = sym (c .check-row .ensures) ∙ c .in-Break-check-row .was tt in
+    let was = sym (c .check-row .ensures .value) ∙ c .in-Break-check-row .was tt in
     let e : c .from-residual .result ≡ Err (c .in-Break-check-row .field-0 .0) = search needs in
-    e ∙ sym (c .loop-ends .inv .0 ∙ rows-stop (c .args .n) (c .loop-ends .place) (c .loop-ends .last) es ts v (c .in-Break-check-row .field-0 .0) (search needs) (search needs) (f .1) was)
+    record {
+      value = e ∙ sym (c .loop-ends .inv .0 ∙ rows-stop (c .args .n) (c .loop-ends .place) (c .loop-ends .last) es ts v (c .in-Break-check-row .field-0 .0) (search needs) (search needs) (f .1) was);
+      place = search needs;
+    }
 
 pub loop-ends-again : need.loop-ends-again
 loop-ends-again c =
@@ -24,9 +27,10 @@ loop-ends-again c =
     let ts = c .loop-ends .left .now in
     let v = c .from-le-bytes-end .result in
     let f = fills-step (c .loop-ends .last) es (length ts) v (search needs) (search needs) (c .loop-ends .inv .1) in
-    let was = sym (c .check-row .ensures) ∙ c .in-Continue-check-row .was tt in
+    let was = sym (c .check-row .ensures .value) ∙ c .in-Continue-check-row .was tt in
     let size : ℕ = 2 * (c .from-le-bytes-end .result - c .loop-ends .last) in
-    let l : length (take (length (c .loop-ends .left .now) - size) (drop size (c .loop-ends .left .now))) ≡ length (c .loop-ends .left .now) - size = ap length (take-rest (c .loop-ends .left .now) size) ∙ length-drop size (c .loop-ends .left .now) in
-    (c .loop-ends .inv .0 ∙ rows-more (c .args .n) (c .loop-ends .place) (c .loop-ends .last) es ts v (search needs) (search needs) (f .1) was,
-     fills-more (c .loop-ends .last) es ts v (search needs) (search needs) (c .loop-ends .inv .1),
-     omega (arith, f .1, l))
+    let l : length (take (length (c .loop-ends .left .now) - size) (drop size (c .loop-ends .left .now))) ≡ length (c .loop-ends .left .now) - size = ap length (take-rest (c .loop-ends .left .now) size) ∙ length-drop size (c .loop-ends .left .now) in (
+      c .loop-ends .inv .0 ∙ rows-more (c .args .n) (c .loop-ends .place) (c .loop-ends .last) es ts v (search needs) (search needs) (f .1) was,
+      fills-more (c .loop-ends .last) es ts v (search needs) (search needs) (c .loop-ends .inv .1),
+      omega (arith, f .1, l),
+    )

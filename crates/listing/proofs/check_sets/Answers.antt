@@ -16,7 +16,10 @@ pub returns-then-not-is-below : need.returns-then-not-is-below
 returns-then-not-is-below c =
     let e : c .args .k ≡ c .args .k - 0 = omega arith in
     let f : clear (c .args .n) (take (c .args .k) (c .loop-todo .left .now)) ≡ false = ap (λ i. clear (c .args .n) (take i (c .loop-todo .left .now))) e ∙ sym (c .if-not-is-below .ensures tt) in
-    sym (c .loop-todo .inv .0 ∙ sets-stop (c .args .n) (c .args .k) (c .loop-todo .todo) (c .loop-todo .place) (c .loop-todo .left .now) (search needs) f)
+    record {
+      value = sym (c .loop-todo .inv .0 ∙ sets-stop (c .args .n) (c .args .k) (c .loop-todo .todo) (c .loop-todo .place) (c .loop-todo .left .now) (search needs) f);
+      place = search needs;
+    }
 
 pub part-left-count : need.part-left-count
 part-left-count c = let r = room-more (c .args .k) (c .loop-todo .todo) (length (c .loop-todo .left .now)) (search needs) (c .loop-todo .inv .1) in search needs

@@ -8,7 +8,7 @@ use Rattle.listing.proofs.Inverse.{accepted-is-layout, layout-is-accepted}
 use Rattle.listing.proofs.read.Needs as need
 
 pub returns-in-rest : need.returns-in-rest
-returns-in-rest c = record { value = sym (read-short (c .args .section .now) (search needs)); formed = tt; accepted = accepted-is-layout; lawful = layout-is-accepted }
+returns-in-rest c = record { value = sym (read-short (c .args .section .now) (search needs)); formed = tt; place = omega arith; accepted = accepted-is-layout; lawful = layout-is-accepted }
 
 pub returns : need.returns
 returns c =
@@ -18,6 +18,7 @@ returns c =
     record {
       value = view-of (c .read-body .result) n (getD bs 2 0) (getD bs 3 0) rest (c .read-body .ensures .value) (c .read-body .ensures .parts) ∙ sym (read-long bs n (search needs) (search needs));
       formed = formed-of (c .read-body .result) n (getD bs 2 0) (getD bs 3 0) rest (c .read-body .ensures .value) (c .read-body .ensures .parts);
+      place = c .read-body .ensures .place;
       accepted = accepted-is-layout;
       lawful = layout-is-accepted;
     }

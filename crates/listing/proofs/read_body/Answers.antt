@@ -23,9 +23,10 @@ returns-in-Break-check-sets c =
     let e : c .from-residual-in-Break-check-sets .result ≡ Err f = search needs in
     record {
       value = ap passed e ∙ sym (in-order n a b rest
-        ∙ go _ _ (sym (c .check-sizes .ensures .value) ∙ c .in-Continue-check-sizes .was tt)
-        ∙ stop _ _ f (sym (c .check-sets .ensures) ∙ c .in-Break-check-sets .was tt));
+          ∙ go _ _ (sym (c .check-sizes .ensures .value) ∙ c .in-Continue-check-sizes .was tt)
+          ∙ stop _ _ f (sym (c .check-sets .ensures .value) ∙ c .in-Break-check-sets .was tt));
       parts = search needs;
+      place = search needs;
     }
 
 pub check-moves-requires : need.check-moves-requires
@@ -42,10 +43,11 @@ returns-in-Break-check-moves c =
     let e : c .from-residual-in-Break-check-moves .result ≡ Err f = search needs in
     record {
       value = ap passed e ∙ sym (in-order n a b rest
-        ∙ go _ _ (sym (c .check-sizes .ensures .value) ∙ c .in-Continue-check-sizes .was tt)
-        ∙ go _ _ (sym (c .check-sets .ensures) ∙ c .in-Continue-check-sets .was tt)
-        ∙ stop _ _ f (sym (c .check-moves .ensures) ∙ c .in-Break-check-moves .was tt));
+          ∙ go _ _ (sym (c .check-sizes .ensures .value) ∙ c .in-Continue-check-sizes .was tt)
+          ∙ go _ _ (sym (c .check-sets .ensures .value) ∙ c .in-Continue-check-sets .was tt)
+          ∙ stop _ _ f (sym (c .check-moves .ensures .value) ∙ c .in-Break-check-moves .was tt));
       parts = search needs;
+      place = search needs;
     }
 
 pub returns-then-is-empty : need.returns-then-is-empty
@@ -53,11 +55,12 @@ returns-then-is-empty c =
     let n = c .args .n in let a = c .args .a in let b = c .args .b in let rest = c .args .rest .now in
     record {
       value = sym (in-order n a b rest
-        ∙ go _ _ (sym (c .check-sizes .ensures .value) ∙ c .in-Continue-check-sizes .was tt)
-        ∙ go _ _ (sym (c .check-sets .ensures) ∙ c .in-Continue-check-sets .was tt)
-        ∙ go _ _ (sym (c .check-moves .ensures) ∙ c .in-Continue-check-moves .was tt)
-        ∙ stop _ _ (fault NoStart 4) (ap (λ x. needed (not x) (fault NoStart 4)) (sym (c .if-is-empty .ensures tt))));
+          ∙ go _ _ (sym (c .check-sizes .ensures .value) ∙ c .in-Continue-check-sizes .was tt)
+          ∙ go _ _ (sym (c .check-sets .ensures .value) ∙ c .in-Continue-check-sets .was tt)
+          ∙ go _ _ (sym (c .check-moves .ensures .value) ∙ c .in-Continue-check-moves .was tt)
+          ∙ stop _ _ (fault NoStart 4) (ap (λ x. needed (not x) (fault NoStart 4)) (sym (c .if-is-empty .ensures tt))));
       parts = tt;
+      place = omega arith;
     }
 
 pub returns : need.returns
@@ -65,9 +68,10 @@ returns c =
     let n = c .args .n in let a = c .args .a in let b = c .args .b in let rest = c .args .rest .now in
     record {
       value = sym (in-order n a b rest
-        ∙ go _ _ (sym (c .check-sizes .ensures .value) ∙ c .in-Continue-check-sizes .was tt)
-        ∙ go _ _ (sym (c .check-sets .ensures) ∙ c .in-Continue-check-sets .was tt)
-        ∙ go _ _ (sym (c .check-moves .ensures) ∙ c .in-Continue-check-moves .was tt)
-        ∙ go _ _ (ap (λ x. needed (not x) (fault NoStart 4)) (sym (c .if-is-empty .ensures tt))));
+          ∙ go _ _ (sym (c .check-sizes .ensures .value) ∙ c .in-Continue-check-sizes .was tt)
+          ∙ go _ _ (sym (c .check-sets .ensures .value) ∙ c .in-Continue-check-sets .was tt)
+          ∙ go _ _ (sym (c .check-moves .ensures .value) ∙ c .in-Continue-check-moves .was tt)
+          ∙ go _ _ (ap (λ x. needed (not x) (fault NoStart 4)) (sym (c .if-is-empty .ensures tt))));
       parts = record { states = refl; atoms = refl; fairs = refl; body = refl; counts = counts-are n a b rest; targets = targets-are n a b rest };
+      place = tt;
     }

@@ -22,4 +22,4 @@ returns c =
     c .is-zero .ensures
     ∙ ap (λ xs. none (unpack xs)) (take-rest (c .args .«set» .now) (c .args .n / 8 + 1))
     ∙ sym (clear-split (c .args .n) (c .args .«set» .now) (c .if-first-set .left) (search needs)
-      ∙ ap (λ b. b && none (unpack (drop (c .args .n / 8 + 1) (c .args .«set» .now)))) (eq-eqb _ 0 (c .if-set-first-ne0 .left)))
+    ∙ ap (λ b. b && none (unpack (drop (c .args .n / 8 + 1) (c .args .«set» .now)))) (eq-eqb _ 0 (c .if-set-first-ne0 .left)))
