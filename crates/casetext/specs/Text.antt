@@ -20,8 +20,8 @@ use Rattle.tabletext.specs.Text.{newline, table-text}
 abbrev pub refusal : Fault → List ℕ
 refusal e = line-of e ++ newline
 
-abbrev pub moved : ℕ → Fault → Fault
-moved at e = fault (e .cause) (at + e .place)
+abbrev pub moved-by : ℕ → Fault → Fault
+moved-by at e = fault (e .cause) (at + e .place)
 
 -- What is not shown yet is named; a second table of length 0 is absent.
 abbrev pub second-text : Kind → Part → List ℕ
@@ -30,7 +30,7 @@ second-text k p = cond (eqb (length (p .bytes)) 0) [] (codes "not shown yet: sec
 -- A listed table and what follows it, or its refusal.
 abbrev pub listed-text : ℕ → Result Listed Fault → List ℕ → List ℕ
 listed-text at (Ok t) more = table-text (meaning-of t) (targets-of t) ++ more
-listed-text at (Err e) more = refusal (moved at e)
+listed-text at (Err e) more = refusal (moved-by at e)
 
 abbrev pub first-text : Kind → Part → List ℕ → List ℕ
 first-text ListedTable p more = listed-text (p .at) (read-of (p .bytes)) more

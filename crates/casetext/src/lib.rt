@@ -1,11 +1,12 @@
 // Case files as text.
 ghost use denote.Ref.{now};
-ghost use Prim.Native.Nat.{ℕ, _≤_};
+ghost use mathlib.Core.Path.{_≡_};
+ghost use Prim.Native.Nat.{_≤_};
 ghost use Rattle.std.specs.Written.{Prints};
 ghost use Rattle.std.specs.declared.option.Option.the-variants.{Some};
 ghost use Rattle.std.specs.declared.result.Result.the-variants.{Ok};
 ghost use Rattle.listing.specs.Read.{read-of};
-ghost use Rattle.casetext.specs.Text.{refusal, second-text, listed-text, contents-text, case-text};
+ghost use Rattle.casetext.specs.Text.{refusal, moved-by, second-text, listed-text, contents-text, case-text};
 ghost use Rattle.casefile.specs.Parts.{part-in, laid-in};
 use casefile::Contents;
 use casefile::Kind;
@@ -25,6 +26,17 @@ fn write_refusal<W: fmt::Write>(fault: Fault, f: &mut fmt::Formatter<W>) -> fmt:
     ensures { λ r. ⌜ Prints (W·Write .took) (now (f .entry)) r (refusal fault) (now (f .exit)) ⌝ }
 {
     write!(f, "{fault}\n")
+}
+
+// The fault of a section that begins at `at`, as a fault of the file.
+fn moved(fault: Fault, at: usize) -> Fault
+    requires { ⌜ at ≤ 65536 ⌝ ∗ ⌜ fault .place ≤ 65536 ⌝ }
+    ensures { λ r. ⌜ r ≡ moved-by at fault ⌝ }
+{
+    Fault {
+        cause: fault.cause,
+        place: at + fault.place,
+    }
 }
 
 // That a second table is there and not shown.
@@ -52,13 +64,7 @@ fn write_listed<W: fmt::Write>(contents: Contents<'_>, f: &mut fmt::Formatter<W>
             write!(f, "{}", TableText { table: &table })?;
             write_second(contents.second_kind, contents.second, f)
         }
-        Some(fault) => write_refusal(
-            Fault {
-                cause: fault.cause,
-                place: contents.first.at + fault.place,
-            },
-            f,
-        ),
+        Some(fault) => write_refusal(moved(fault, contents.first.at), f),
     }
 }
 

@@ -27,13 +27,24 @@ pub struct Listed<'a> {
     parts: Parts<'a>,
     fault: Option<Fault>,
     ghost passed: { passes parts ≡ true },
+    ghost atoms: { parts .atoms ≡ length (listed-in parts .atoms) },
+    ghost fairs: { parts .«fairness_sets» ≡ length (listed-in parts .fairs) },
     ghost counted: { now (parts .counts) ≡ counts-in parts },
     ghost targeted: { now (parts .targets) ≡ targets-in parts },
+}
+
+// A row of targets: the number of its first target among all, and how many there are.
+#[derive(Clone, Copy)]
+struct Row {
+    first: usize,
+    count: usize,
 }
 
 // One start state that moves to itself, without atoms, its one fairness set full.
 fn one_state() -> Parts<'static>
     ensures passed { λ r. ⌜ passes r ≡ true ⌝ }
+    ensures atoms { λ r. ⌜ r .atoms ≡ length (listed-in r .atoms) ⌝ }
+    ensures fairs { λ r. ⌜ r .«fairness_sets» ≡ length (listed-in r .fairs) ⌝ }
     ensures counts { λ r. ⌜ now (r .counts) ≡ counts-in r ⌝ }
     ensures targets { λ r. ⌜ now (r .targets) ≡ targets-in r ⌝ }
     ensures table { λ r. ⌜ listed-in r ≡ one-listed ⌝ }
@@ -78,6 +89,22 @@ impl<'a> Listed<'a> {
         stateset::contains(&self.parts.body[from..from + width], s)
     }
 
+    // Whether s is in atom j, which is there.
+    fn in_this_atom(&self, j: usize, s: usize) -> bool
+        requires { ⌜ j < now self .parts .atoms ⌝ }
+        ensures { λ r. ⌜ r ≡ meaning-of (listed-in (now (self .entry) .parts)) .atom j s ⌝ }
+    {
+        self.in_set(1 + j, s)
+    }
+
+    // Whether s is in fairness set i, which is there.
+    fn in_this_fairness_set(&self, i: usize, s: usize) -> bool
+        requires { ⌜ i < now self .parts .«fairness_sets» ⌝ }
+        ensures { λ r. ⌜ r ≡ meaning-of (listed-in (now (self .entry) .parts)) .fair i s ⌝ }
+    {
+        self.in_set(1 + self.parts.atoms + i, s)
+    }
+
     // How many moves the states up to and with s have.
     fn moves_through(&self, s: usize) -> usize
         requires { ⌜ s < now self .parts .states ⌝ }
@@ -92,6 +119,18 @@ impl<'a> Listed<'a> {
         ensures { λ r. ⌜ r ≡ getD (0 ∷ u16s (counts-in (now (self .entry) .parts))) s 0 ⌝ }
     {
         if s == 0 { 0 } else { self.moves_through(s - 1) }
+    }
+
+    // Where the targets of s lie, s being a state.
+    fn row(&self, s: usize) -> Row
+        requires { ⌜ s < now self .parts .states ⌝ }
+        ensures count { λ r. ⌜ r .count ≡ length (targets-of (listed-in (now (self .entry) .parts)) s) ⌝ }
+        ensures room { λ r. ⌜ 2 * (r .first + r .count) ≤ length (now (now (self .entry) .parts .targets)) ⌝ }
+        ensures targets { λ r. ⌜ ((k : ℕ) → k < r .count → getD (u16s (now (now (self .entry) .parts .targets))) (r .first + k) 0 ≡ getD (targets-of (listed-in (now (self .entry) .parts)) s) k 0) ⌝ }
+    {
+        let first = self.moves_before(s);
+        let count = self.moves_through(s) - first;
+        Row { first, count }
     }
 
     // Why the section was refused, if it was; the place is an offset in the section.
@@ -137,31 +176,31 @@ pub impl<'a> Table for Listed<'a> as ListedTable {
         if j >= self.parts.atoms {
             return false;
         }
-        self.in_set(1 + j, s)
+        self.in_this_atom(j, s)
     }
 
     fn in_fairness_set(&self, i: usize, s: usize) -> bool {
         if i >= self.parts.fairness_sets {
             return false;
         }
-        self.in_set(1 + self.parts.atoms + i, s)
+        self.in_this_fairness_set(i, s)
     }
 
     fn move_count(&self, s: usize) -> usize {
         if s >= self.parts.states {
             return 0;
         }
-        self.moves_through(s) - self.moves_before(s)
+        self.row(s).count
     }
 
     fn target(&self, s: usize, k: usize) -> usize {
         if s >= self.parts.states {
             return 0;
         }
-        let before = self.moves_before(s);
-        if k >= self.moves_through(s) - before {
+        let row = self.row(s);
+        if k >= row.count {
             return 0;
         }
-        u16_at(self.parts.targets, before + k)
+        u16_at(self.parts.targets, row.first + k)
     }
 }

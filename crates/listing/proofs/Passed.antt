@@ -98,6 +98,13 @@ pub length-sets : (n k m : ℕ) (bs : List ℕ) → length (sets-of n k m bs) �
 length-sets n k zero bs = refl
 length-sets n k (suc m) bs = ap suc (length-sets n k m (drop k bs))
 
+-- The counts of atoms and of fairness sets are those of the table.
+pub atoms-counted : (n a b : ℕ) (rest : List ℕ) → a ≡ length (table-of n a b rest .atoms)
+atoms-counted n a b rest = sym (length-take-le a (others n a b rest) (omega (arith, length-sets n (width n) (a + b) (drop (width n) rest))))
+
+pub fairs-counted : (n a b : ℕ) (rest : List ℕ) → b ≡ length (table-of n a b rest .fairs)
+fairs-counted n a b rest = sym (length-drop a (others n a b rest) ∙ omega (arith, length-sets n (width n) (a + b) (drop (width n) rest)))
+
 pub length-past : (k m : ℕ) (bs : List ℕ) → length (past k m bs) ≡ length bs - m * k
 length-past k zero bs = omega arith
 length-past k (suc m) bs = length-past k m (drop k bs) ∙ simp length-drop (omega (arith, suc-mul m k))

@@ -69,6 +69,3 @@ module _ (cs ts : List ℕ) (s : ℕ) (r : Rises 0 cs) (h : s < length cs) (full
       ∙ getD-take _ (drop (getD (0 ∷ cs) s 0 - 0) ts) k 0 l
       ∙ getD-drop (getD (0 ∷ cs) s 0 - 0) ts k 0
       ∙ ap (λ i. getD ts i 0) e
-
-  pub row-past : (k : ℕ) → getD cs s 0 - getD (0 ∷ cs) s 0 ≤ k → getD (getD (dealt 0 cs ts) s []) k 0 ≡ 0
-  row-past k l = getD-past (getD (dealt 0 cs ts) s []) k 0 (omega (arith, row-length))

@@ -9,7 +9,8 @@ use lib.ListN.{length, getD, take, drop}
 use denote.Ref.{now}
 use Rattle.std.proofs.shelf.Bits.{mul-le}
 use Rattle.std.proofs.shelf.Lists.{getD-take, getD-drop, getD-past, length-take-le, length-drop}
-use Rattle.stateset.specs.Sets.{unpack, set-of}
+use Rattle.stateset.specs.Sets.{bit-at, unpack, set-of}
+use Rattle.stateset.proofs.Flags.{unpack-bit}
 use Rattle.listing.specs.declared.Parts.{Parts}
 use Rattle.listing.specs.Numbers.{u16s}
 use Rattle.listing.specs.Sets.{width, sets-of, past}
@@ -17,9 +18,9 @@ use Rattle.listing.specs.Rows.{last-of}
 use Rattle.listing.specs.Listed.{meaning-of, targets-of}
 use Rattle.listing.specs.Read.{others, count-bytes, target-bytes}
 use Rattle.listing.specs.Parts.{listed-in, passes, counts-in, targets-in}
-use Rattle.listing.proofs.Passed.{Passed, length-sets, length-past, counts-long, targets-long, length-dealt}
+use Rattle.listing.proofs.Passed.{Passed, atoms-counted, fairs-counted, length-past, counts-long, targets-long, length-dealt}
 use Rattle.listing.proofs.Faithful.{parts-passed}
-use Rattle.listing.proofs.Places.{set-at, flag-below, flag-past, row-bounds, row-length, row-target, row-past}
+use Rattle.listing.proofs.Places.{set-at, flag-below, flag-past, row-bounds, row-length, row-target}
 
 module _ (p : Parts) (ok : passes p ≡ true) where
   abbrev n : ℕ
@@ -46,15 +47,11 @@ module _ (p : Parts) (ok : passes p ≡ true) where
   pub few-sets : a + b ≤ 20
   few-sets = omega (arith, passed .few-atoms, passed .few-fairs)
 
-  many : length (others n a b rest) ≡ a + b
-  many = length-sets n (width n) (a + b) (drop (width n) rest)
-
-  -- The counts of atoms and of fairness sets.
   pub atoms-are : a ≡ meaning-of (listed-in p) .atoms
-  atoms-are = sym (length-take-le a (others n a b rest) (omega (arith, many)))
+  atoms-are = atoms-counted n a b rest
 
   pub fairs-are : b ≡ meaning-of (listed-in p) .fairs
-  fairs-are = sym (length-drop a (others n a b rest) ∙ omega (arith, many))
+  fairs-are = fairs-counted n a b rest
 
   -- Set j, of all sets, lies within the body, and its flags are the set's.
   abbrev pub all-sets : List (List Bool)
@@ -66,10 +63,11 @@ module _ (p : Parts) (ok : passes p ≡ true) where
   pub set-small : (j : ℕ) → j < suc (a + b) → j * width n ≤ 2560
   set-small j h = omega (arith, mul-le j (width n) 20 128 (omega (arith, few-sets)) (omega (arith, few-states)))
 
-  pub set-flag : (j s : ℕ) → j < suc (a + b) → s < n → getD (unpack (take (j * width n + width n - j * width n) (drop (j * width n) rest))) s false ≡ getD (getD all-sets j []) s false
+  pub set-flag : (j s : ℕ) → j < suc (a + b) → s < n → bit-at (take (j * width n + width n - j * width n) (drop (j * width n) rest)) s ≡ getD (getD all-sets j []) s false
   set-flag j s h l =
       let e : j * width n + width n - j * width n ≡ width n = omega arith in
-      ap (λ i. getD (unpack (take i (drop (j * width n) rest))) s false) e
+      sym (unpack-bit (take (j * width n + width n - j * width n) (drop (j * width n) rest)) s)
+      ∙ ap (λ i. getD (unpack (take i (drop (j * width n) rest))) s false) e
       ∙ sym (ap (λ flags. getD flags s false) (set-at n (width n) (suc (a + b)) j rest h) ∙ flag-below n s (take (width n) (drop (j * width n) rest)) l)
 
   pub set-past : (j s : ℕ) → j < suc (a + b) → n ≤ s → false ≡ getD (getD all-sets j []) s false
@@ -104,20 +102,18 @@ module _ (p : Parts) (ok : passes p ≡ true) where
   pub row-rises : (s : ℕ) → s < n → getD (0 ∷ cs) s 0 ≤ getD cs s 0
   row-rises s h = row-bounds 0 cs s (passed .rise) (counted s h) .1
 
-  pub target-room : (s k : ℕ) → s < n → k < getD cs s 0 - getD (0 ∷ cs) s 0 → 2 * (getD (0 ∷ cs) s 0 + k) + 1 < length (targets-in p)
-  target-room s k h l = omega (arith, row-bounds 0 cs s (passed .rise) (counted s h) .2, passed .fill)
+  -- Where a row of targets lies, and that it is the row of the table.
+  pub row-room : (s : ℕ) → s < n → 2 * getD cs s 0 ≤ length (targets-in p)
+  row-room s h = omega (arith, row-bounds 0 cs s (passed .rise) (counted s h) .2, passed .fill)
 
   full : last-of 0 cs ≡ length (u16s (targets-in p))
   full = sym (targets-long n a b rest passed)
 
-  pub moves-are : (s : ℕ) → s < n → getD cs s 0 - getD (0 ∷ cs) s 0 ≡ length (targets-of (listed-in p) s)
-  moves-are s h = sym (row-length cs (u16s (targets-in p)) s (passed .rise) (counted s h) full)
+  pub row-count : (s : ℕ) → s < n → getD cs s 0 - getD (0 ∷ cs) s 0 ≡ length (targets-of (listed-in p) s)
+  row-count s h = sym (row-length cs (u16s (targets-in p)) s (passed .rise) (counted s h) full)
 
-  pub target-is : (s k : ℕ) → s < n → k < getD cs s 0 - getD (0 ∷ cs) s 0 → getD (u16s (targets-in p)) (getD (0 ∷ cs) s 0 + k) 0 ≡ getD (targets-of (listed-in p) s) k 0
-  target-is s k h l = sym (row-target cs (u16s (targets-in p)) s (passed .rise) (counted s h) full k l)
-
-  pub target-none : (s k : ℕ) → s < n → getD cs s 0 - getD (0 ∷ cs) s 0 ≤ k → 0 ≡ getD (targets-of (listed-in p) s) k 0
-  target-none s k h l = sym (row-past cs (u16s (targets-in p)) s (passed .rise) (counted s h) full k l)
+  pub row-goals : (s : ℕ) → s < n → (k : ℕ) → k < length (targets-of (listed-in p) s) → getD (u16s (targets-in p)) (getD (0 ∷ cs) s 0 + k) 0 ≡ getD (targets-of (listed-in p) s) k 0
+  row-goals s h k l = sym (row-target cs (u16s (targets-in p)) s (passed .rise) (counted s h) full k (omega (arith, row-count s h)))
 
   -- What is no state has no moves.
   pub row-none : (s : ℕ) → n ≤ s → [] ≡ targets-of (listed-in p) s

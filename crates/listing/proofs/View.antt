@@ -18,6 +18,7 @@ use Rattle.fault.specs.Faults.{fault}
 use Rattle.listing.specs.declared.Parts.{Parts}
 use Rattle.listing.specs.Listed.{Listed}
 use Rattle.listing.specs.Read.{table-of, count-bytes, target-bytes, body-check, given, read-of}
+use Rattle.listing.proofs.Passed.{atoms-counted, fairs-counted}
 use Rattle.listing.specs.Parts.{viewed, passed, is-ok, passes, Cut, Formed}
 
 -- Anything told of a body's four parts is told of the parts' own.
@@ -32,6 +33,8 @@ pub formed-of : (r : Result Parts Fault) (n a b : ℕ) (rest : List ℕ) → pas
 unfolding passes
 formed-of (Ok p) n a b rest e cut = record {
   passed = ap is-ok (at-parts body-check n a b rest p cut ∙ sym e);
+  atoms = atoms-counted (p .states) (p .atoms) (p .«fairness_sets») (now (p .body));
+  fairs = fairs-counted (p .states) (p .atoms) (p .«fairness_sets») (now (p .body));
   counts = cut .counts ∙ sym (at-parts count-bytes n a b rest p cut);
   targets = cut .targets ∙ sym (at-parts target-bytes n a b rest p cut);
 }

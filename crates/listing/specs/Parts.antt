@@ -3,6 +3,7 @@ use mathlib.Core.Path.{_≡_}
 use mathlib.Core.Bool.{Bool, true, false}
 use mathlib.Core.List.{List, [], _∷_}
 use Prim.Native.Nat.{ℕ, suc, _+_, _*_, _-_, _≤_}
+use lib.ListN.{length}
 use denote.Ref.{now}
 use Rattle.std.specs.declared.result.Result.{Result}
 use Rattle.std.specs.declared.result.Result.the-variants.{Ok, Err}
@@ -38,6 +39,8 @@ targets-in p = target-bytes (p .states) (p .atoms) (p .«fairness_sets») (now (
 -- Parts that were read.
 pub record Formed (p : Parts) : Type 0 where
   pub passed : passes p ≡ true
+  pub atoms : p .atoms ≡ length (listed-in p .atoms)
+  pub fairs : p .«fairness_sets» ≡ length (listed-in p .fairs)
   pub counts : now (p .counts) ≡ counts-in p
   pub targets : now (p .targets) ≡ targets-in p
 

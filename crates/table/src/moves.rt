@@ -21,7 +21,8 @@ pub fn has_move_into<T: Table>(table: &T, set: &[bool; 1024], s: usize) -> bool
 pub fn all_moves_into<T: Table>(table: &T, set: &[bool; 1024], s: usize) -> bool
     ensures { λ r. ⌜ r ≡ every-move (T·Table .meaning (now (table .entry))) s (λ t. getD (now (set .entry)) t false) ⌝ }
 {
-    for k in 0..table.move_count(s) {
+    let moves = table.move_count(s);
+    for k in 0..moves {
         if !set[table.target(s, k)] {
             return false;
         }

@@ -1,6 +1,7 @@
 use mathlib.Core.Path.{ap, _∙_}
 use Rattle.std.specs.Results.{isOk}
 use Rattle.std.proofs.Writes.{put-is, prints-then}
+use Rattle.casetext.specs.Text.{refusal}
 use Rattle.casetext.proofs.Tells.{accepted-text, refused-text}
 use Rattle.casetext.proofs.write_listed.Needs as need
 
@@ -11,4 +12,4 @@ returns-in-Continue-write g c plain ok =
 
 pub returns-in-Some : need.returns-in-Some
 returns-in-Some g c plain ok =
-    put-is (g .W·Write .took) _ _ _ _ (refused-text (c .args .contents .first .at) _ _ (c .in-Some .fault) (c .in-Some .ensures tt ∙ c .of-table .ensures .fault)) (c .write-refusal .ensures plain ok)
+    put-is (g .W·Write .took) _ _ _ _ (ap refusal (c .moved .ensures) ∙ refused-text (c .args .contents .first .at) _ _ (c .in-Some .fault) (c .in-Some .ensures tt ∙ c .of-table .ensures .fault)) (c .write-refusal .ensures plain ok)

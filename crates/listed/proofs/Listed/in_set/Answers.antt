@@ -23,4 +23,4 @@ pub part-contains-end : need.part-contains-end
 part-contains-end c = set-room (c .args .self .now .parts) (c .args .self .now .passed) (c .args .j) (c .pre)
 
 pub returns : need.returns
-returns c = c .contains .ensures .flag ∙ set-flag (c .args .self .now .parts) (c .args .self .now .passed) (c .args .j) (c .args .s) (c .pre) (search needs)
+returns c = c .contains .ensures ∙ set-flag (c .args .self .now .parts) (c .args .self .now .passed) (c .args .j) (c .args .s) (c .pre) (search needs)
