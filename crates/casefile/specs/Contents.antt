@@ -1,5 +1,5 @@
 -- The contents of a case file: five entries, each a letter and a 32-bit length, and then the five sections without gaps.
-use mathlib.Core.Bool.{Bool, false, cond, _&&_}
+use mathlib.Core.Bool.{Bool, cond, _&&_}
 use mathlib.Core.List.{List}
 use Prim.Native.Nat.{ℕ, zero, suc, _+_, _-_, _*_}
 use lib.Chars.{codes}

@@ -1,6 +1,6 @@
 // Case files: a table or two, a wiring list, a formula and steps, one section each.
 ghost use mathlib.Core.Path.{_≡_};
-ghost use Prim.Native.Nat.{ℕ, _+_, _<_, _≤_};
+ghost use Prim.Native.Nat.{_+_, _<_, _≤_};
 ghost use lib.ListN.{length};
 ghost use Rattle.casefile.specs.Contents.{u32-at, kind-of, kind-text, others-named, adding-up, contents-of};
 ghost use Rattle.casefile.specs.Parts.{viewed, Placed};

@@ -1,6 +1,5 @@
 // Why a case file is refused, and where.
 ghost use mathlib.Core.Path.{_≡_};
-ghost use Prim.Native.Nat.{ℕ};
 ghost use Rattle.std.specs.declared.option.Option.the-variants.{Some};
 ghost use Rattle.fault.specs.Faults.{number-of, line-of};
 use std::fmt;

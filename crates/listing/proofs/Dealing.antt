@@ -12,8 +12,8 @@ use Rattle.std.specs.declared.result.Result.the-variants.{Ok, Err}
 use Rattle.fault.specs.declared.Fault.{Fault}
 use Rattle.listing.specs.Numbers.{u16s}
 use Rattle.listing.specs.Rows.{dealt, last-of}
-use Rattle.listing.specs.Check.{Checked, between, counts-check, rows-check, row-check, then}
-use Rattle.listing.specs.Parts.{Fills}
+use Rattle.listing.specs.Check.{Checked, counts-check, rows-check, row-check, then}
+use Rattle.listing.specs.Inner.{Fills}
 
 -- Two bytes a number.
 pub length-u16s : (bs : List ℕ) (m : ℕ) → length bs ≡ 2 * m → length (u16s bs) ≡ m

@@ -1,9 +1,9 @@
 -- A lawful listed table is a table: its targets are exactly its moves, and all bounds are kept.
 use mathlib.Core.Path.{_≡_, refl, sym, ap, subst, _∙_}
-use mathlib.Core.Bool.{Bool, true, false, not, _&&_, _||_, false≢true}
+use mathlib.Core.Bool.{Bool, true, false, false≢true}
 use mathlib.Core.Logic.{_⊎_, inl, inr, ⊎-elim}
 use mathlib.Core.List.{List, [], _∷_, _++_}
-use Prim.Native.Nat.{ℕ, zero, suc, _+_, _-_, _*_, _^_, _<_, _≤_}
+use Prim.Native.Nat.{ℕ, zero, suc, _+_, _-_, _^_, _<_, _≤_}
 use native.Mathlib.Omega.{arith}
 use native.Mathlib.Nat.{pow-le-pow-right}
 use lib.Dec.{eqb}
@@ -19,7 +19,6 @@ use Rattle.std.specs.declared.result.Result.the-variants.{Ok, Err}
 use denote.Ref.{now}
 use Rattle.listing.specs.declared.Parts.{Parts}
 use Rattle.listing.specs.Check.{Checked}
-use Rattle.listing.specs.Read.{body-check}
 use Rattle.listing.specs.Parts.{is-ok, passes, listed-in}
 use Rattle.listing.proofs.Passed.{Passed, passed-of, lawful-of}
 use Rattle.listing.specs.Listed.{Listed, Lawful, Sized, Climbs, Rising, meaning-of, targets-of}

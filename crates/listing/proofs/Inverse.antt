@@ -1,11 +1,11 @@
 -- Reading a listed table and laying it out are inverse.
 use mathlib.Core.Path.{_≡_, refl, sym, ap, ap₂, subst, _∙_}
-use mathlib.Core.Bool.{Bool, true, false, cond, not, _&&_}
+use mathlib.Core.Bool.{Bool, true, cond, not, _&&_}
 use mathlib.Core.List.{List, [], _∷_, _++_}
-use Prim.Native.Nat.{ℕ, zero, suc, _+_, _-_, _*_, _/_, _%_, _<_, _≤_}
+use Prim.Native.Nat.{ℕ, zero, suc, _+_, _-_, _*_, _/_, _%_, _≤_}
 use native.Mathlib.Omega.{arith}
 use native.Mathlib.Nat.{suc-mul}
-use lib.Dec.{eqb, leb, ltb}
+use lib.Dec.{leb, ltb}
 use lib.ListN.{length, take, drop}
 use Rattle.std.proofs.shelf.Lists.{take-append-drop, take-at, drop-at, length-append, length-take-le, length-drop}
 use Rattle.std.proofs.shelf.Tests.{and-parts, and-from, le-leb, le-ltb, lt-ltb, eq-eqb, cond-true, cond-false}
@@ -20,7 +20,7 @@ use Rattle.listing.specs.Sets.{width, pack, put-sets, sets-of, past}
 use Rattle.listing.specs.Rows.{counts, all-of, dealt, last-of}
 use Rattle.listing.specs.Listed.{Listed, Lawful, Climbs, Rising, body, encode}
 use Rattle.listing.specs.Check.{Checked, need, then, between, sets-check, counts-check, row-check, rows-check}
-use Rattle.listing.specs.Read.{others, count-bytes, target-bytes, table-of, checks, body-check, given, read-of}
+use Rattle.listing.specs.Read.{others, count-bytes, target-bytes, table-of, checks, body-check, given, read-body}
 use Rattle.listing.specs.Layout.{Bytes, Accepted-is-layout, Layout-is-accepted}
 use Rattle.listing.proofs.Dealing.{length-u16s, Rises}
 use Rattle.listing.proofs.Codec.{clears, u16s-put, put-u16s, put-sets-of, sets-of-put, counts-dealt, all-dealt, dealt-counts, bytes-take, bytes-drop, length-pack}
@@ -121,7 +121,7 @@ length-put-sets : (k : ℕ) (ss : List (List Bool)) → length (put-sets k ss) �
 length-put-sets k [] = omega arith
 length-put-sets k (s ∷ ss) = length-append (pack k s) (put-sets k ss) ∙ omega (arith, length-put-sets k ss, length-pack k s, suc-mul (length ss) k)
 
-body-read : (t : Listed) → Lawful t → given (body-check (t .size) (length (t .atoms)) (length (t .fairs)) (body t)) (table-of (t .size) (length (t .atoms)) (length (t .fairs)) (body t)) ≡ Ok t
+body-read : (t : Listed) → Lawful t → read-body (t .size) (length (t .atoms)) (length (t .fairs)) (body t) ≡ Ok t
 body-read t w =
     let n : ℕ = t .size in
     let a : ℕ = length (t .atoms) in
@@ -179,5 +179,5 @@ pub layout-is-accepted : Layout-is-accepted
 layout-is-accepted t w =
     let e : t .size % 256 + t .size / 256 * 256 ≡ t .size = omega arith in
     long-enough (t .size % 256) (t .size / 256) (length (t .atoms)) (length (t .fairs)) (body t) _
-    ∙ ap (λ n. given (body-check n (length (t .atoms)) (length (t .fairs)) (body t)) (table-of n (length (t .atoms)) (length (t .fairs)) (body t))) e
+    ∙ ap (λ n. read-body n (length (t .atoms)) (length (t .fairs)) (body t)) e
     ∙ body-read t w

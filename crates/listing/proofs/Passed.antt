@@ -1,24 +1,23 @@
 -- What the checks show of a section that passes them: its table is lawful.
-use mathlib.Core.Path.{_≡_, refl, sym, ap, ap₂, subst, _∙_}
-use mathlib.Core.Bool.{Bool, true, false, cond, not, _&&_}
-use mathlib.Core.List.{List, [], _∷_, _++_}
-use Prim.Native.Nat.{ℕ, zero, suc, _+_, _-_, _*_, _<_, _≤_}
+use mathlib.Core.Path.{_≡_, refl, sym, ap, _∙_}
+use mathlib.Core.Bool.{Bool, true, false}
+use mathlib.Core.List.{List, [], _∷_}
+use Prim.Native.Nat.{ℕ, zero, suc, _+_, _-_, _*_, _≤_}
 use native.Mathlib.Omega.{arith}
 use native.Mathlib.Nat.{suc-mul}
-use lib.Dec.{eqb, leb, ltb}
+use lib.Dec.{leb, ltb}
 use lib.ListN.{length, take, drop}
 use Rattle.std.proofs.shelf.Lists.{take-append-drop, length-take-le, length-drop}
 use Rattle.std.proofs.shelf.Tests.{and-parts, and-from, leb-true, ltb-true, eqb-true, not-true}
-use Rattle.std.specs.declared.result.Result.{Result}
 use Rattle.std.specs.declared.result.Result.the-variants.{Ok, Err}
 use Rattle.fault.specs.declared.Fault.{Fault}
 use Rattle.stateset.specs.Sets.{unpack, none, set-of, clear}
 use Rattle.stateset.proofs.Flags.{length-unpack}
 use Rattle.listing.specs.Numbers.{u16s}
 use Rattle.listing.specs.Sets.{width, sets-of, past}
-use Rattle.listing.specs.Rows.{dealt, all-of, last-of}
+use Rattle.listing.specs.Rows.{dealt, last-of}
 use Rattle.listing.specs.Listed.{Sized, Climbs, Rising, Lawful}
-use Rattle.listing.specs.Check.{Checked, need, then, first-of, between, sets-check, row-check, rows-check}
+use Rattle.listing.specs.Check.{Checked, need, then, first-of, sets-check, row-check, rows-check}
 use Rattle.listing.specs.Read.{others, count-bytes, target-bytes, table-of, checks, body-check}
 use Rattle.listing.proofs.Codec.{clears, all-dealt}
 use Rattle.listing.proofs.Dealing.{cond-ok, length-u16s, Rises, rises-to, counts-rise, counts-few}

@@ -1,14 +1,12 @@
 -- Where in the bytes a listed table's sets, counts and targets lie.
-use mathlib.Core.Path.{_≡_, refl, sym, ap, ap₂, _∙_}
-use mathlib.Core.Bool.{Bool, true, false}
+use mathlib.Core.Path.{_≡_, refl, ap, ap₂, _∙_}
+use mathlib.Core.Bool.{false}
 use mathlib.Core.List.{List, [], _∷_}
-use mathlib.Core.Logic.{⊎-elim}
 use Prim.Native.Nat.{ℕ, zero, suc, _+_, _-_, _*_, _<_, _≤_}
 use native.Mathlib.Omega.{arith}
 use native.Mathlib.Nat.{suc-mul}
 use lib.ListN.{length, getD, take, drop}
 use Rattle.std.proofs.shelf.Lists.{getD-take, getD-drop, getD-past, drop-drop, length-take, length-take-le, length-drop}
-use Rattle.std.proofs.shelf.Tests.{cases-lt}
 use Rattle.stateset.specs.Sets.{unpack, set-of}
 use Rattle.listing.specs.Numbers.{u16s}
 use Rattle.listing.specs.Sets.{sets-of}

@@ -1,5 +1,5 @@
 -- What the parts of a section answer is what its table means.
-use mathlib.Core.Path.{_≡_, refl, sym, ap, ap₂, _∙_}
+use mathlib.Core.Path.{_≡_, sym, ap, _∙_}
 use mathlib.Core.Bool.{Bool, true, false}
 use mathlib.Core.List.{List, [], _∷_}
 use Prim.Native.Nat.{ℕ, suc, _+_, _-_, _*_, _<_, _≤_}
@@ -8,15 +8,15 @@ use native.Mathlib.Nat.{suc-mul}
 use lib.ListN.{length, getD, take, drop}
 use denote.Ref.{now}
 use Rattle.std.proofs.shelf.Bits.{mul-le}
-use Rattle.std.proofs.shelf.Lists.{getD-take, getD-drop, getD-past, length-take-le, length-drop}
-use Rattle.stateset.specs.Sets.{bit-at, unpack, set-of}
+use Rattle.std.proofs.shelf.Lists.{getD-take, getD-drop, getD-past, length-take-le}
+use Rattle.stateset.specs.Sets.{bit-at, unpack}
 use Rattle.stateset.proofs.Flags.{unpack-bit}
 use Rattle.listing.specs.declared.Parts.{Parts}
 use Rattle.listing.specs.Numbers.{u16s}
 use Rattle.listing.specs.Sets.{width, sets-of, past}
 use Rattle.listing.specs.Rows.{last-of}
 use Rattle.listing.specs.Listed.{meaning-of, targets-of}
-use Rattle.listing.specs.Read.{others, count-bytes, target-bytes}
+use Rattle.listing.specs.Read.{others}
 use Rattle.listing.specs.Parts.{listed-in, passes, counts-in, targets-in}
 use Rattle.listing.proofs.Passed.{Passed, atoms-counted, fairs-counted, length-past, counts-long, targets-long, length-dealt}
 use Rattle.listing.proofs.Faithful.{parts-passed}

@@ -1,6 +1,6 @@
 -- What one turn of each loop of the reader keeps.
-use mathlib.Core.Path.{_≡_, refl, sym, ap, ap₂, _∙_}
-use mathlib.Core.Bool.{Bool, true, false, cond, _&&_}
+use mathlib.Core.Path.{_≡_, sym, ap, ap₂, _∙_}
+use mathlib.Core.Bool.{true, false}
 use mathlib.Core.List.{List, [], _∷_}
 use Prim.Native.Nat.{ℕ, zero, suc, _+_, _-_, _*_, _<_, _≤_}
 use native.Mathlib.Omega.{arith}
@@ -8,7 +8,7 @@ use native.Mathlib.Nat.{suc-mul}
 use lib.ListN.{length, getD, take, drop}
 use Rattle.std.proofs.shelf.Lists.{take-all, take-rest}
 use Rattle.std.proofs.shelf.Tests.{cond-true, cond-false, le-leb, lt-ltb, and-from}
-use Rattle.std.specs.declared.result.Result.the-variants.{Ok, Err}
+use Rattle.std.specs.declared.result.Result.the-variants.{Err}
 use Rattle.fault.specs.declared.Cause.the-variants.{StrayBit}
 use Rattle.fault.specs.Faults.{fault}
 use Rattle.stateset.specs.Sets.{clear}

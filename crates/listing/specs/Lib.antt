@@ -5,4 +5,5 @@ pub mod Listed
 pub mod Check
 pub mod Read
 pub mod Parts
+pub mod Inner
 pub mod Layout

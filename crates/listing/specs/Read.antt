@@ -66,13 +66,15 @@ checks n a b rest =
 abbrev pub body-check : (n a b : ℕ) → List ℕ → Checked
 body-check n a b rest = first-of (checks n a b rest)
 
--- A section shorter than its four leading bytes has that fault before all others.
-abbrev pub with-body : {A : Type 0} → List ℕ → (ℕ → ℕ → ℕ → List ℕ → Result A Fault) → Result A Fault
-with-body section f = cond (ltb (length section) 4) (Err (fault TableCounts 0)) (f (getD section 0 0 + getD section 1 0 * 256) (getD section 2 0) (getD section 3 0) (drop 4 section))
-
+-- The table, where every check passes.
 abbrev pub given : Checked → Listed → Result Listed Fault
 given (Ok u) t = Ok t
 given (Err e) t = Err e
 
+abbrev pub read-body : (n a b : ℕ) → List ℕ → Result Listed Fault
+read-body n a b rest = given (body-check n a b rest) (table-of n a b rest)
+
+-- The four leading bytes give the counts; a section that is shorter has that fault before all others.
 abbrev pub read-of : List ℕ → Result Listed Fault
-read-of section = with-body section (λ n a b rest. given (body-check n a b rest) (table-of n a b rest))
+read-of section = cond (ltb (length section) 4) (Err (fault TableCounts 0))
+    (read-body (getD section 0 0 + getD section 1 0 * 256) (getD section 2 0) (getD section 3 0) (drop 4 section))

@@ -1,14 +1,15 @@
 // The layout of a listed table: reading and checking its section.
 ghost use mathlib.Core.Path.{_≡_};
-ghost use Prim.Native.Nat.{ℕ, suc, _+_, _*_, _≤_};
-ghost use lib.ListN.{length, getD};
+ghost use Prim.Native.Nat.{_+_, _*_, _≤_};
+ghost use lib.ListN.{length};
 ghost use Rattle.std.specs.Vec.{made, refused};
+ghost use Rattle.stateset.specs.Sets.{Flags-are-bits};
 ghost use Rattle.listing.specs.Numbers.{u16s};
-ghost use Rattle.listing.specs.Sets.{width};
 ghost use Rattle.listing.specs.Rows.{dealt, last-of};
 ghost use Rattle.listing.specs.Check.{first-of, sets-check, counts-check, row-check, rows-check};
 ghost use Rattle.listing.specs.Read.{read-of, size-checks, move-checks, body-check};
-ghost use Rattle.listing.specs.Parts.{viewed, Formed, Cut, passed, Fills, Sizes};
+ghost use Rattle.listing.specs.Parts.{viewed, Formed};
+ghost use Rattle.listing.specs.Inner.{Cut, passed, Fills, Sizes};
 ghost use Rattle.listing.specs.Layout.{Accepted-is-layout, Layout-is-accepted};
 use fault::Cause;
 use fault::Fault;
@@ -203,13 +204,14 @@ fn read_body(rest: &[u8], n: usize, a: usize, b: usize) -> Result<Parts<'_>, Fau
 }
 
 // The parts of a section, or its first fault; places are offsets in the section. What is accepted is the layout of
-// exactly the table that was read, and every lawful table's layout is accepted.
+// exactly the table that was read, every lawful table's layout is accepted, and the flags of a set are its bits.
 pub fn read(section: &[u8]) -> Result<Parts<'_>, Fault>
     ensures value { λ r. ⌜ viewed r ≡ read-of (now (section .entry)) ⌝ }
     ensures formed { λ r. ⌜ made r Formed ⌝ }
     ensures place { λ r. ⌜ refused r (λ e. e .place ≤ 65536) ⌝ }
     ensures accepted { λ _. ⌜ Accepted-is-layout ⌝ }
     ensures lawful { λ _. ⌜ Layout-is-accepted ⌝ }
+    ensures flags { λ _. ⌜ Flags-are-bits ⌝ }
 {
     let [low, high, a, b, rest @ ..] = section else {
         return Err(Fault {

@@ -9,8 +9,8 @@ use native.Mathlib.Nat.{zero-div, two-pow-succ}
 use lib.Dec.{eqb}
 use lib.ListN.{length, getD, take, drop}
 use Rattle.std.proofs.shelf.Bits.{shr-shr, shr-below}
-use Rattle.std.proofs.shelf.Lists.{getD-append-left, getD-append-right, getD-take, getD-past, length-take, length-append, drop-append-le, drop-at, drop-drop, drop-all, at-drop-more, at-drop-all}
-use Rattle.std.proofs.shelf.Tests.{and-parts, and-from, not-true, not-from-false, cases-lt, cases-bool, eq-eqb, ne-eqb, false≢true}
+use Rattle.std.proofs.shelf.Lists.{getD-append-left, getD-append-right, getD-take, getD-past, length-take, length-append, drop-append-le, drop-at, drop-drop, drop-all, at-drop-more}
+use Rattle.std.proofs.shelf.Tests.{and-parts, and-from, not-true, not-from-false, cases-lt, cases-bool, eq-eqb, false≢true}
 use Rattle.std.proofs.shelf.Ways.{tells}
 use Rattle.stateset.specs.Sets.{bit-at, bits, unpack, none, set-of, clear}
 

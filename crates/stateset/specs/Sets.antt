@@ -1,4 +1,5 @@
 -- Sets of states as rows of bytes.
+use mathlib.Core.Path.{_≡_}
 use mathlib.Core.Bool.{Bool, true, false, not, _&&_}
 use mathlib.Core.List.{List, [], _∷_, _++_}
 use Prim.Native.Nat.{ℕ, zero, suc, _/_, _%_, _^_}
@@ -18,6 +19,10 @@ bits (suc m) x = eqb (x % 2) 1 ∷ bits m (x / 2)
 abbrev pub unpack : List ℕ → List Bool
 unpack [] = []
 unpack (b ∷ bs) = bits 8 b ++ unpack bs
+
+-- The two ways to see a row agree: the flag of state s is its bit.
+abbrev pub Flags-are-bits : Type 0
+Flags-are-bits = (bytes : List ℕ) (s : ℕ) → getD (unpack bytes) s false ≡ bit-at bytes s
 
 -- No flag is true.
 abbrev pub none : List Bool → Bool

@@ -1,19 +1,11 @@
 -- Tests of the numbers below n.
 use mathlib.Core.Path.{_≡_, refl}
-use mathlib.Core.Bool.{Bool, true, false, _&&_, _||_, false≢true}
-use mathlib.Core.Logic.{_⊎_, inl, inr}
+use mathlib.Core.Bool.{Bool, true, false}
+use mathlib.Core.Logic.{inl, inr}
 use Prim.Native.Nat.{ℕ, zero, suc, _<_}
 use native.Mathlib.Omega.{arith}
-use Rattle.std.proofs.shelf.Tests.{or-cases, or-from, or-left, or-right, and-from, and-left, and-right, and-parts, cases-eq}
+use Rattle.std.proofs.shelf.Tests.{or-from, or-left, or-right, and-from, and-left, and-right, cases-eq}
 use Rattle.table.specs.Moves.{some-below, every-below}
-
-pub some-then : (n : ℕ) (P : ℕ → Bool) → some-below n P ≡ true → (s : ℕ) × (s < n) × (P s ≡ true)
-unfolding some-below
-some-then zero P h = absurd (false≢true h)
-some-then (suc n) P h = elim (or-cases _ (P n) h) [
-  | inl r ↦ let (s, lt, p) = some-then n P r in (s, omega arith, p)
-  | inr e ↦ (n, omega arith, e)
-]
 
 pub then-some : (n : ℕ) (P : ℕ → Bool) (s : ℕ) → s < n → P s ≡ true → some-below n P ≡ true
 unfolding some-below

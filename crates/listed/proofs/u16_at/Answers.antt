@@ -1,5 +1,4 @@
 use mathlib.Core.Path.{sym, _∙_}
-use borrow.Author.Needs.{needs}
 use Rattle.listing.proofs.Places.{u16-at}
 use Rattle.listed.proofs.u16_at.Needs as need
 

@@ -2,12 +2,11 @@ use mathlib.Core.Path.{_≡_, sym, ap, _∙_}
 use Prim.Native.Nat.{_*_}
 use native.Mathlib.Omega.{arith}
 use lib.ListN.{length}
-use borrow.Author.Needs.{needs}
 use Rattle.std.specs.declared.result.Result.the-variants.{Ok}
 use Rattle.listing.specs.Numbers.{u16s}
 use Rattle.listing.specs.Rows.{last-of}
 use Rattle.listing.specs.Check.{counts-check}
-use Rattle.listing.specs.Parts.{passed}
+use Rattle.listing.specs.Inner.{passed}
 use Rattle.listing.proofs.Dealing.{counts-rise, counts-few, fills-from}
 use Rattle.listing.proofs.check_moves.Needs as need
 

@@ -3,7 +3,7 @@ use Prim.Native.Nat.{_+_, _≤_}
 use lib.ListN.{length}
 use Rattle.listing.specs.Numbers.{u16s}
 use Rattle.listing.specs.Rows.{dealt}
-use Rattle.listing.specs.Parts.{Fills}
+use Rattle.listing.specs.Inner.{Fills}
 use Rattle.listing.specs.Check.{rows-check}
 use Rattle.listing.proofs.check_rows.Given as given
 

@@ -1,14 +1,15 @@
-use mathlib.Core.Path.{_≡_, sym, _∙_}
+use mathlib.Core.Path.{sym, _∙_}
 use native.Mathlib.Omega.{arith}
 use Prim.Native.Nat.{_-_}
 use lib.ListN.{length, getD, take, drop}
 use borrow.Author.Needs.{needs}
 use Rattle.listing.proofs.View.{view-of, formed-of, read-long, read-short}
 use Rattle.listing.proofs.Inverse.{accepted-is-layout, layout-is-accepted}
+use Rattle.stateset.proofs.Flags.{unpack-bit}
 use Rattle.listing.proofs.read.Needs as need
 
 pub returns-in-rest : need.returns-in-rest
-returns-in-rest c = record { value = sym (read-short (c .args .section .now) (search needs)); formed = tt; place = omega arith; accepted = accepted-is-layout; lawful = layout-is-accepted }
+returns-in-rest c = record { value = sym (read-short (c .args .section .now) (search needs)); formed = tt; place = omega arith; accepted = accepted-is-layout; lawful = layout-is-accepted; flags = unpack-bit }
 
 pub returns : need.returns
 returns c =
@@ -21,4 +22,5 @@ returns c =
       place = c .read-body .ensures .place;
       accepted = accepted-is-layout;
       lawful = layout-is-accepted;
+      flags = unpack-bit;
     }

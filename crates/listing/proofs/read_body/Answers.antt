@@ -1,18 +1,17 @@
 use mathlib.Core.Path.{_≡_, refl, sym, ap, _∙_}
 use mathlib.Core.Bool.{not}
-use Prim.Native.Nat.{ℕ, _+_, _*_, _≤_}
+use Prim.Native.Nat.{_+_, _*_, _≤_}
 use native.Mathlib.Omega.{arith}
-use lib.ListN.{length}
 use borrow.Author.Needs.{needs}
 use Rattle.std.proofs.shelf.Bits.{mul-le}
 use Rattle.std.proofs.shelf.Edits.{length-between}
-use Rattle.std.specs.declared.result.Result.the-variants.{Ok, Err}
+use Rattle.std.specs.declared.result.Result.the-variants.{Err}
 use Rattle.fault.specs.declared.Cause.the-variants.{NoStart}
 use Rattle.fault.specs.declared.Fault.{Fault}
 use Rattle.fault.specs.Faults.{fault}
 use Rattle.listing.specs.Sets.{width}
 use Rattle.listing.specs.Check.{need as needed}
-use Rattle.listing.specs.Parts.{passed}
+use Rattle.listing.specs.Inner.{passed}
 use Rattle.listing.proofs.Order.{in-order, stop, go, counts-are, targets-are}
 use Rattle.listing.proofs.read_body.Needs as need
 

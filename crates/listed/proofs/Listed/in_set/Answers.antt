@@ -1,5 +1,4 @@
 use mathlib.Core.Path.{_∙_}
-use native.Mathlib.Omega.{arith}
 use borrow.Author.Needs.{needs}
 use Rattle.listing.proofs.Questions.{few-states, set-room, set-small, set-flag, set-past}
 use Rattle.listed.proofs.Listed.in_set.Needs as need
