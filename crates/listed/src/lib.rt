@@ -204,3 +204,98 @@ pub impl<'a> Table for Listed<'a> as ListedTable {
         u16_at(self.parts.targets, row.first + k)
     }
 }
+
+#[cfg(test)]
+mod tests {
+    use super::*;
+    use fault::Cause;
+    use fault::FaultDebug;
+    use fault::FaultPartialEq;
+    use std::test::*;
+    use table::moves::all_moves_into;
+    use table::moves::has_move_into;
+
+    // Three states, 0 -> 1 2, 1 -> 1, 2 -> 0 1; 0 starts; atoms {0, 2} and {1}; one fairness set, {2}.
+    const THREE: [u8; 25] = [
+        3,
+        0,
+        2,
+        1,
+        1,
+        5,
+        2,
+        4,
+        2,
+        0,
+        3,
+        0,
+        5,
+        0,
+        1,
+        0,
+        2,
+        0,
+        1,
+        0,
+        0,
+        0,
+        1,
+        0,
+        0,
+    ];
+
+    #[test]
+    fn answers_every_number() -> Result<(), Fail> {
+        let table = Listed::of(&THREE[0..24]);
+        check_eq(table.fault(), None)?;
+        check_eq(
+            (table.states(), table.atoms(), table.fairness_sets()),
+            (3, 2, 1),
+        )?;
+        check(table.is_start(0) && !table.is_start(1) && !table.is_start(3))?;
+        check(table.in_atom(0, 2) && table.in_atom(1, 1) && !table.in_atom(2, 2))?;
+        check(table.in_fairness_set(0, 2) && !table.in_fairness_set(1, 2))?;
+        check_eq(
+            (
+                table.move_count(0),
+                table.move_count(2),
+                table.move_count(3),
+            ),
+            (2, 2, 0),
+        )?;
+        check_eq(
+            (table.target(0, 1), table.target(2, 1), table.target(2, 2)),
+            (2, 1, 0),
+        )
+    }
+
+    #[test]
+    fn tells_moves_into_a_set() -> Result<(), Fail> {
+        let table = Listed::of(&THREE[0..24]);
+        let mut set = [false; 1024];
+        set[1] = true;
+        check(has_move_into(&table, &set, 0) && !all_moves_into(&table, &set, 0))?;
+        check(all_moves_into(&table, &set, 1) && !has_move_into(&table, &set, 3))
+    }
+
+    #[test]
+    fn is_one_state_where_refused() -> Result<(), Fail> {
+        let table = Listed::of(&THREE);
+        check_eq(
+            table.fault(),
+            Some(Fault {
+                cause: Cause::Targets,
+                place: 0,
+            }),
+        )?;
+        check_eq(
+            (table.states(), table.atoms(), table.fairness_sets()),
+            (1, 0, 1),
+        )?;
+        check(table.is_start(0) && table.in_fairness_set(0, 0) && !table.in_atom(0, 0))?;
+        check_eq(
+            (table.move_count(0), table.target(0, 0), table.move_count(1)),
+            (1, 0, 0),
+        )
+    }
+}
