@@ -10,10 +10,9 @@ ghost use Rattle.std.specs.declared.result.Result.the-variants.{Err};
 ghost use Rattle.table.specs.Same.{Same-meaning};
 ghost use Rattle.table.specs.OneState.{one-state};
 ghost use Rattle.listing.specs.Numbers.{u16s};
-ghost use Rattle.listing.specs.Sets.{width, sets-of};
 ghost use Rattle.listing.specs.Listed.{meaning-of, targets-of, one-listed};
 ghost use Rattle.listing.specs.Read.{read-of};
-ghost use Rattle.listing.specs.Parts.{listed-in, passes, counts-in, targets-in};
+ghost use Rattle.listing.specs.Parts.{listed-in, sets-in, passes, counts-in, targets-in};
 ghost use Rattle.listing.proofs.Faithful.{parts-faithful};
 ghost use Rattle.listed.specs.Kind.{table-or-one, fault-in};
 use fault::Fault;
@@ -79,7 +78,7 @@ impl<'a> Listed<'a> {
     // Whether s is in set j of the section: the start set, then the atoms, then the fairness sets.
     fn in_set(&self, j: usize, s: usize) -> bool
         requires { ⌜ j < suc (now self .parts .atoms + now self .parts .«fairness_sets») ⌝ }
-        ensures { λ r. ⌜ r ≡ getD (getD (sets-of (now (self .entry) .parts .states) (width (now (self .entry) .parts .states)) (suc (now (self .entry) .parts .atoms + now (self .entry) .parts .«fairness_sets»)) (now (now (self .entry) .parts .body))) j []) s false ⌝ }
+        ensures { λ r. ⌜ r ≡ getD (getD (sets-in (now (self .entry) .parts)) j []) s false ⌝ }
     {
         if s >= self.parts.states {
             return false;

@@ -1,6 +1,6 @@
 -- What the parts of a section answer is what its table means.
 use mathlib.Core.Path.{_≡_, sym, ap, _∙_}
-use mathlib.Core.Bool.{Bool, true, false}
+use mathlib.Core.Bool.{true, false}
 use mathlib.Core.List.{List, [], _∷_}
 use Prim.Native.Nat.{ℕ, suc, _+_, _-_, _*_, _<_, _≤_}
 use native.Mathlib.Omega.{arith}
@@ -13,11 +13,11 @@ use Rattle.stateset.specs.Sets.{bit-at, unpack}
 use Rattle.stateset.proofs.Flags.{unpack-bit}
 use Rattle.listing.specs.declared.Parts.{Parts}
 use Rattle.listing.specs.Numbers.{u16s}
-use Rattle.listing.specs.Sets.{width, sets-of, past}
+use Rattle.listing.specs.Sets.{width, past}
 use Rattle.listing.specs.Rows.{last-of}
 use Rattle.listing.specs.Listed.{meaning-of, targets-of}
 use Rattle.listing.specs.Read.{others}
-use Rattle.listing.specs.Parts.{listed-in, passes, counts-in, targets-in}
+use Rattle.listing.specs.Parts.{listed-in, sets-in, passes, counts-in, targets-in}
 use Rattle.listing.proofs.Passed.{Passed, atoms-counted, fairs-counted, length-past, counts-long, targets-long, length-dealt}
 use Rattle.listing.proofs.Faithful.{parts-passed}
 use Rattle.listing.proofs.Places.{set-at, flag-below, flag-past, row-bounds, row-length, row-target}
@@ -54,38 +54,35 @@ module _ (p : Parts) (ok : passes p ≡ true) where
   fairs-are = fairs-counted n a b rest
 
   -- Set j, of all sets, lies within the body, and its flags are the set's.
-  abbrev pub all-sets : List (List Bool)
-  all-sets = sets-of n (width n) (suc (a + b)) rest
-
   pub set-room : (j : ℕ) → j < suc (a + b) → j * width n + width n ≤ length rest
   set-room j h = omega (arith, mul-le (suc j) (width n) (suc (a + b)) (width n) (omega arith) (omega arith), suc-mul j (width n), passed .room)
 
   pub set-small : (j : ℕ) → j < suc (a + b) → j * width n ≤ 2560
   set-small j h = omega (arith, mul-le j (width n) 20 128 (omega (arith, few-sets)) (omega (arith, few-states)))
 
-  pub set-flag : (j s : ℕ) → j < suc (a + b) → s < n → bit-at (take (j * width n + width n - j * width n) (drop (j * width n) rest)) s ≡ getD (getD all-sets j []) s false
+  pub set-flag : (j s : ℕ) → j < suc (a + b) → s < n → bit-at (take (j * width n + width n - j * width n) (drop (j * width n) rest)) s ≡ getD (getD (sets-in p) j []) s false
   set-flag j s h l =
       let e : j * width n + width n - j * width n ≡ width n = omega arith in
       sym (unpack-bit (take (j * width n + width n - j * width n) (drop (j * width n) rest)) s)
       ∙ ap (λ i. getD (unpack (take i (drop (j * width n) rest))) s false) e
       ∙ sym (ap (λ flags. getD flags s false) (set-at n (width n) (suc (a + b)) j rest h) ∙ flag-below n s (take (width n) (drop (j * width n) rest)) l)
 
-  pub set-past : (j s : ℕ) → j < suc (a + b) → n ≤ s → false ≡ getD (getD all-sets j []) s false
+  pub set-past : (j s : ℕ) → j < suc (a + b) → n ≤ s → false ≡ getD (getD (sets-in p) j []) s false
   set-past j s h l = sym (ap (λ flags. getD flags s false) (set-at n (width n) (suc (a + b)) j rest h) ∙ flag-past n s (take (width n) (drop (j * width n) rest)) l)
 
   -- The atoms follow the start set, and the fairness sets the atoms.
-  pub atom-is : (j s : ℕ) → j < a → getD (getD all-sets (1 + j) []) s false ≡ meaning-of (listed-in p) .atom j s
+  pub atom-is : (j s : ℕ) → j < a → getD (getD (sets-in p) (1 + j) []) s false ≡ meaning-of (listed-in p) .atom j s
   atom-is j s h =
       let e : 1 + j ≡ suc j = omega arith in
-      ap (λ flags. getD flags s false) (ap (λ i. getD all-sets i []) e ∙ sym (getD-take a (others n a b rest) j [] h))
+      ap (λ flags. getD flags s false) (ap (λ i. getD (sets-in p) i []) e ∙ sym (getD-take a (others n a b rest) j [] h))
 
   pub atom-none : (j s : ℕ) → a ≤ j → false ≡ meaning-of (listed-in p) .atom j s
   atom-none j s h = sym (ap (λ flags. getD flags s false) (getD-past (take a (others n a b rest)) j [] (omega (arith, atoms-are))))
 
-  pub fair-is : (i s : ℕ) → getD (getD all-sets (1 + a + i) []) s false ≡ meaning-of (listed-in p) .fair i s
+  pub fair-is : (i s : ℕ) → getD (getD (sets-in p) (1 + a + i) []) s false ≡ meaning-of (listed-in p) .fair i s
   fair-is i s =
       let e : 1 + a + i ≡ suc (a + i) = omega arith in
-      ap (λ flags. getD flags s false) (ap (λ k. getD all-sets k []) e ∙ sym (getD-drop a (others n a b rest) i []))
+      ap (λ flags. getD flags s false) (ap (λ k. getD (sets-in p) k []) e ∙ sym (getD-drop a (others n a b rest) i []))
 
   pub fair-none : (i s : ℕ) → b ≤ i → false ≡ meaning-of (listed-in p) .fair i s
   fair-none i s h = sym (ap (λ flags. getD flags s false) (getD-past (drop a (others n a b rest)) i [] (omega (arith, fairs-are))))

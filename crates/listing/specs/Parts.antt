@@ -2,13 +2,14 @@
 use mathlib.Core.Path.{_≡_}
 use mathlib.Core.Bool.{Bool, true, false}
 use mathlib.Core.List.{List}
-use Prim.Native.Nat.{ℕ}
+use Prim.Native.Nat.{ℕ, suc, _+_}
 use lib.ListN.{length}
 use denote.Ref.{now}
 use Rattle.std.specs.declared.result.Result.{Result}
 use Rattle.std.specs.declared.result.Result.the-variants.{Ok, Err}
 use Rattle.fault.specs.declared.Fault.{Fault}
 use Rattle.listing.specs.declared.Parts.{Parts}
+use Rattle.listing.specs.Sets.{width, sets-of}
 use Rattle.listing.specs.Listed.{Listed}
 use Rattle.listing.specs.Check.{Checked}
 use Rattle.listing.specs.Read.{table-of, count-bytes, target-bytes, body-check}
@@ -20,6 +21,10 @@ listed-in p = table-of (p .states) (p .atoms) (p .«fairness_sets») (now (p .bo
 abbrev pub viewed : Result Parts Fault → Result Listed Fault
 viewed (Ok p) = Ok (listed-in p)
 viewed (Err e) = Err e
+
+-- All sets that they hold: the start set, the atoms, the fairness sets.
+abbrev pub sets-in : Parts → List (List Bool)
+sets-in p = sets-of (p .states) (width (p .states)) (suc (p .atoms + p .«fairness_sets»)) (now (p .body))
 
 -- The parts pass every check; the bytes of the counts and of the targets, as the body has them.
 abbrev pub is-ok : Checked → Bool

@@ -1,12 +1,21 @@
 -- Text written piece by piece.
 use mathlib.Core.Path.{_≡_, sym, ap, subst}
+use mathlib.Core.Bool.{true}
 use mathlib.Core.List.{List, _++_}
 use Prim.Native.Nat.{ℕ, _+_}
 use native.Mathlib.Numerals.{add-one}
 use Rattle.std.specs.declared.fmt.Formatter.{Formatter}
+use Rattle.std.specs.Results.{isOk}
+use Rattle.std.specs.declared.fmt.Error.{Error}
+use Rattle.std.specs.declared.result.Result.{Result}
+use Rattle.std.specs.declared.result.Result.the-variants.{Ok}
 use Rattle.std.specs.Written.{Plain, Put}
 use Rattle.std.proofs.Writes.{wrote-none, put-more, put-is}
 use Rattle.tabletext.specs.Text.{each-below}
+
+-- A write that went on was a success.
+pub went-on : (r : Result (Unit {0}) Error) (u : Unit {0}) → r ≡ Ok u → isOk r ≡ true
+went-on r u e = ap isOk e
 
 module _ {W : Type 0} (took : W → List ℕ → W → Type 0) where
   -- Before the first number, one number more, and at the end.
