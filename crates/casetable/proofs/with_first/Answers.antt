@@ -16,7 +16,7 @@ returns-in-ListedTable g c =
     let there : eqb (length l.second.bytes) 0 ≡ false = search rules in
     let held = held_is (λ t. record { meaning = listed_meaning t; targets = listed_targets t }) l.second.at one_listed (read_listed l.second.bytes) _ _ c.of-second.ensures.table (search rules) in
     let is = held ∙ ap (λ k. table_at k l.second) (sym c.in-ListedTable.is) in
-    subst (λ w. Done w c.with-second.result (g.K.Task.done c.args.task.now) c.args.context.now c.with-second.new.context) (second_is l _ c.args.refused _ none there is) c.with-second.ensures
+    subst (λ w. Done w c.with_second.result (g.K.Task.done c.args.task.now) c.args.context.now c.with_second.new.context) (second_is l _ c.args.refused _ none there is) c.with_second.ensures
 
 pub returns-in-RegisterTable : goal.returns-in-RegisterTable
 returns-in-RegisterTable g c =
@@ -25,4 +25,4 @@ returns-in-RegisterTable g c =
     let there : eqb (length l.second.bytes) 0 ≡ false = search rules in
     let held = held_is (λ t. record { meaning = circuit_meaning t; targets = circuit_targets t }) l.second.at one_circuit (read_circuit l.second.bytes) _ _ c.of-second-in-RegisterTable.ensures.circuit (search rules) in
     let is = held ∙ ap (λ k. table_at k l.second) (sym c.in-RegisterTable.is) in
-    subst (λ w. Done w c.with-second-in-RegisterTable.result (g.K.Task.done c.args.task.now) c.args.context.now c.with-second-in-RegisterTable.new.context) (second_is l _ c.args.refused _ none there is) c.with-second-in-RegisterTable.ensures
+    subst (λ w. Done w c.with_second-in-RegisterTable.result (g.K.Task.done c.args.task.now) c.args.context.now c.with_second-in-RegisterTable.new.context) (second_is l _ c.args.refused _ none there is) c.with_second-in-RegisterTable.ensures

@@ -7,4 +7,4 @@ use Rattle.casetext.proofs.write_tables.Goals as goal
 pub returns-in-RegisterTable : goal.returns-in-RegisterTable
 returns-in-RegisterTable g c plain ok =
     let k = c.args.contents in
-    has_written_of_eq g.W.Write.write_str_gives _ _ _ _ (ap (λ x. first_text x (part_in k.first) (second_text k.second_kind (part_in k.second))) (sym c.in-RegisterTable.is)) (c.write-str.ensures.writes plain ok)
+    has_written_of_eq g.W.Write.write_str_gives _ _ _ _ (ap (λ x. first_text x (part_in k.first) (second_text k.second_kind (part_in k.second))) (sym c.in-RegisterTable.is)) (c.write_str.ensures.writes plain ok)

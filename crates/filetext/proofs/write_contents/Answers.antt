@@ -12,15 +12,15 @@ use Rattle.filetext.proofs.write_contents.Goals as goal
 pub returns-in-Ok : goal.returns-in-Ok
 returns-in-Ok g c =
     let want = table_of (laid_in c.args.contents.now) in
-    let was : c.with-table.result ≡ Ok c.in-Ok.written = search rules in
-    table_told g.W.Write.write_str_gives c.args.f.now c.with-table.new.context want c.in-Ok.written
-    (subst (λ r. Done want r (λ M targets x y z. WritesOnOk g.W.Write.write_str_gives x y (table_text M targets) z) c.args.f.now c.with-table.new.context) was c.with-table.ensures)
+    let was : c.with_table.result ≡ Ok c.in-Ok.written = search rules in
+    table_told g.W.Write.write_str_gives c.args.f.now c.with_table.new.context want c.in-Ok.written
+    (subst (λ r. Done want r (λ M targets x y z. WritesOnOk g.W.Write.write_str_gives x y (table_text M targets) z) c.args.f.now c.with_table.new.context) was c.with_table.ensures)
 
 pub returns-in-Err : goal.returns-in-Err
 returns-in-Err g c =
     let want = table_of (laid_in c.args.contents.now) in
-    let was : c.with-table.result ≡ Err c.in-Err.fault = search rules in
-    let told = fault_told g.W.Write.write_str_gives c.args.f.now c.with-table.new.context want c.in-Err.fault
-    (subst (λ r. Done want r (λ M targets x y z. WritesOnOk g.W.Write.write_str_gives x y (table_text M targets) z) c.args.f.now c.with-table.new.context) was c.with-table.ensures) in
-    subst (λ x. WritesOnOk g.W.Write.write_str_gives x c.write-refusal.result (told_text want) c.write-refusal.new.f) told.1
-    (λ plain ok. has_written_of_eq g.W.Write.write_str_gives _ _ _ _ told.0 (c.write-refusal.ensures plain ok))
+    let was : c.with_table.result ≡ Err c.in-Err.fault = search rules in
+    let told = fault_told g.W.Write.write_str_gives c.args.f.now c.with_table.new.context want c.in-Err.fault
+    (subst (λ r. Done want r (λ M targets x y z. WritesOnOk g.W.Write.write_str_gives x y (table_text M targets) z) c.args.f.now c.with_table.new.context) was c.with_table.ensures) in
+    subst (λ x. WritesOnOk g.W.Write.write_str_gives x c.write_refusal.result (told_text want) c.write_refusal.new.f) told.1
+    (λ plain ok. has_written_of_eq g.W.Write.write_str_gives _ _ _ _ told.0 (c.write_refusal.ensures plain ok))

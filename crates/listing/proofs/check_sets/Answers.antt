@@ -4,31 +4,31 @@ use Rattle.stateset.specs.Sets.{clear}
 use Rattle.listing.proofs.Turns.{sets_more, sets_stop, room_more}
 use Rattle.listing.proofs.check_sets.Goals as goal
 
-pub slice-bounds-is-below-end : goal.slice-bounds-is-below-end
-slice-bounds-is-below-end c = let r = room_more c.args.k c.loop-todo.todo (length c.loop-todo.left.now) (search rules) c.loop-todo.invariant.1 in search rules
+pub slice_bounds-is_below-end : goal.slice_bounds-is_below-end
+slice_bounds-is_below-end c = let r = room_more c.args.k c.loop-todo.todo (length c.loop-todo.left.now) (search rules) c.loop-todo.invariant.1 in search rules
 
-pub returns-then-not-is-below : goal.returns-then-not-is-below
-returns-then-not-is-below c =
+pub returns-then-not-is_below : goal.returns-then-not-is_below
+returns-then-not-is_below c =
     let e : c.args.k ≡ c.args.k - 0 = omega arith in
-    let f : clear c.args.n (take c.args.k c.loop-todo.left.now) ≡ false = ap (λ i. clear c.args.n (take i c.loop-todo.left.now)) e ∙ sym c.if-not-is-below.ensures in
+    let f : clear c.args.n (take c.args.k c.loop-todo.left.now) ≡ false = ap (λ i. clear c.args.n (take i c.loop-todo.left.now)) e ∙ sym c.if-not-is_below.ensures in
     record {
       value = sym (c.loop-todo.invariant.0 ∙ sets_stop c.args.n c.args.k c.loop-todo.todo c.loop-todo.place c.loop-todo.left.now (search rules) f);
       place = search rules;
     }
 
-pub slice-bounds-left-count : goal.slice-bounds-left-count
-slice-bounds-left-count c = let r = room_more c.args.k c.loop-todo.todo (length c.loop-todo.left.now) (search rules) c.loop-todo.invariant.1 in search rules
+pub slice_bounds-left-count : goal.slice_bounds-left-count
+slice_bounds-left-count c = let r = room_more c.args.k c.loop-todo.todo (length c.loop-todo.left.now) (search rules) c.loop-todo.invariant.1 in search rules
 
-pub slice-bounds-left-start : goal.slice-bounds-left-start
-slice-bounds-left-start c = let r = room_more c.args.k c.loop-todo.todo (length c.loop-todo.left.now) (search rules) c.loop-todo.invariant.1 in search rules
+pub slice_bounds-left-start : goal.slice_bounds-left-start
+slice_bounds-left-start c = let r = room_more c.args.k c.loop-todo.todo (length c.loop-todo.left.now) (search rules) c.loop-todo.invariant.1 in search rules
 
-pub overflow-add-place : goal.overflow-add-place
-overflow-add-place c = let r = room_more c.args.k c.loop-todo.todo (length c.loop-todo.left.now) (search rules) c.loop-todo.invariant.1 in search rules
+pub overflow_add-place : goal.overflow_add-place
+overflow_add-place c = let r = room_more c.args.k c.loop-todo.todo (length c.loop-todo.left.now) (search rules) c.loop-todo.invariant.1 in search rules
 
 pub loop-todo-preserved : goal.loop-todo-preserved
 loop-todo-preserved c =
     let r = room_more c.args.k c.loop-todo.todo (length c.loop-todo.left.now) (search rules) c.loop-todo.invariant.1 in
     let e : c.args.k ≡ c.args.k - 0 = omega arith in
-    let f : clear c.args.n (take c.args.k c.loop-todo.left.now) ≡ true = ap (λ i. clear c.args.n (take i c.loop-todo.left.now)) e ∙ sym c.if-not-is-below.ensures in
+    let f : clear c.args.n (take c.args.k c.loop-todo.left.now) ≡ true = ap (λ i. clear c.args.n (take i c.loop-todo.left.now)) e ∙ sym c.if-not-is_below.ensures in
     let l : length (take (length c.loop-todo.left.now - c.args.k) (drop c.args.k c.loop-todo.left.now)) ≡ length c.loop-todo.left.now - c.args.k = ap length (take_rest c.loop-todo.left.now c.args.k) ∙ length-drop c.args.k c.loop-todo.left.now in
     (c.loop-todo.invariant.0 ∙ sets_more c.args.n c.args.k c.loop-todo.todo c.loop-todo.place c.loop-todo.left.now (search rules) f, omega arith, omega arith)

@@ -12,7 +12,7 @@ returns-then-set-first-ne0 c =
 pub returns : goal.returns
 returns c =
     let bs = c.args.«set».now in
-    c.is-zero.ensures
+    c.is_zero.ensures
     ∙ ap (λ xs. none (unpack xs)) (take_rest c.args.«set».now (c.args.n / 8 + 1))
     ∙ sym (clear_split c.args.n c.args.«set».now c.requires (search rules)
     ∙ ap (λ b. b && none (unpack (drop (c.args.n / 8 + 1) c.args.«set».now))) (eq-eqb _ 0 c.if-set-first-ne0.false))

@@ -4,5 +4,5 @@ use Rattle.tabletext.proofs.write_set.Goals as goal
 
 pub returns : goal.returns
 returns g c =
-    writes_on_IsOk-append g.W.Write.write_str_gives _ _ _ _ _ _ _ (λ _. went_on c.write.result tt c.in-ok-write.was) c.write.ensures.writes
-    (writes_on_IsOk-append g.W.Write.write_str_gives _ _ _ _ _ _ _ (λ _. went_on c.write-members.result tt c.in-ok-write-members.was) c.write-members.ensures c.write-str.ensures.writes)
+    writes_on_IsOk-append g.W.Write.write_str_gives _ _ _ _ _ _ _ (λ _. went_on c.write.result tt c.in_ok-write.was) c.write.ensures.writes
+    (writes_on_IsOk-append g.W.Write.write_str_gives _ _ _ _ _ _ _ (λ _. went_on c.write_members.result tt c.in_ok-write_members.was) c.write_members.ensures c.write_str.ensures.writes)

@@ -5,20 +5,20 @@ use Rattle.listed.proofs.Listed.in_set.Goals as goal
 pub returns-then-s-self : goal.returns-then-s-self
 returns-then-s-self c = set_past c.args.self.now.parts c.args.self.now.passed c.args.j c.args.s c.requires (search rules)
 
-pub overflow-add-width : goal.overflow-add-width
-overflow-add-width c = let few = few_states c.args.self.now.parts c.args.self.now.passed in search rules
+pub overflow_add-width : goal.overflow_add-width
+overflow_add-width c = let few = few_states c.args.self.now.parts c.args.self.now.passed in search rules
 
-pub overflow-mul-from : goal.overflow-mul-from
-overflow-mul-from c = let small = set_small c.args.self.now.parts c.args.self.now.passed c.args.j c.requires in search rules
+pub overflow_mul-from : goal.overflow_mul-from
+overflow_mul-from c = let small = set_small c.args.self.now.parts c.args.self.now.passed c.args.j c.requires in search rules
 
-pub overflow-add-from : goal.overflow-add-from
-overflow-add-from c =
+pub overflow_add-from : goal.overflow_add-from
+overflow_add-from c =
     let small = set_small c.args.self.now.parts c.args.self.now.passed c.args.j c.requires in
     let few = few_states c.args.self.now.parts c.args.self.now.passed in
     search rules
 
-pub slice-bounds-contains-end : goal.slice-bounds-contains-end
-slice-bounds-contains-end c = set_room c.args.self.now.parts c.args.self.now.passed c.args.j c.requires
+pub slice_bounds-contains-end : goal.slice_bounds-contains-end
+slice_bounds-contains-end c = set_room c.args.self.now.parts c.args.self.now.passed c.args.j c.requires
 
 pub returns : goal.returns
 returns c = c.contains.ensures ∙ set_flag c.args.self.now.parts c.args.self.now.passed c.args.j c.args.s c.requires (search rules)

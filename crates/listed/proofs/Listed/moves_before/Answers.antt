@@ -9,4 +9,4 @@ returns-then-s-eq0 c = sym (ap (λ i. get_or (0 ∷ u16s (counts_in c.args.self.
 pub returns-else-s-eq0 : goal.returns-else-s-eq0
 returns-else-s-eq0 c =
     let e : suc (c.args.s - 1) ≡ c.args.s = omega arith in
-    c.moves-through.ensures ∙ ap (λ i. get_or (0 ∷ u16s (counts_in c.args.self.now.parts)) i 0) e
+    c.moves_through.ensures ∙ ap (λ i. get_or (0 ∷ u16s (counts_in c.args.self.now.parts)) i 0) e

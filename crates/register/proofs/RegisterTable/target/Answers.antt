@@ -4,5 +4,5 @@ use Rattle.circuit.specs.Table.{targets_of}
 use Rattle.register.specs.Parts.{circuit_in}
 use Rattle.register.proofs.RegisterTable.target.Goals as goal
 
-pub returns-then-k-move-count : goal.returns-then-k-move-count
-returns-then-k-move-count c = sym (get_or_past (targets_of (circuit_in c.args.self.now.parts) c.args.s) c.args.k 0 (search rules))
+pub returns-then-k-move_count : goal.returns-then-k-move_count
+returns-then-k-move_count c = sym (get_or_past (targets_of (circuit_in c.args.self.now.parts) c.args.s) c.args.k 0 (search rules))

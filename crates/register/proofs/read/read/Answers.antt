@@ -4,8 +4,8 @@ use Rattle.circuit.proofs.Inverse.{accepted_is_layout, layout_is_accepted, value
 use Rattle.register.proofs.View.{view_of, bounded_of, read_long}
 use Rattle.register.proofs.read.read.Goals as goal
 
-pub returns-in-default : goal.returns-in-default
-returns-in-default c = record { value = search rules; bounded = search rules; place = search rules; accepted = accepted_is_layout; lawful = layout_is_accepted; values = values_are }
+pub returns-in_default : goal.returns-in_default
+returns-in_default c = record { value = search rules; bounded = search rules; place = search rules; accepted = accepted_is_layout; lawful = layout_is_accepted; values = values_are }
 
 pub returns : goal.returns
 returns c =

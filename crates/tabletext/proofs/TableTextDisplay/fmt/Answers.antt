@@ -4,7 +4,7 @@ use Rattle.tabletext.proofs.TableTextDisplay.fmt.Goals as goal
 
 pub returns-clause-writes : goal.returns-clause-writes
 returns-clause-writes g c =
-    writes_on_IsOk-append g.W.Write.write_str_gives _ _ _ _ _ _ _ (λ _. went_on c.write-counts.result tt c.in-ok-write-counts.was) c.write-counts.ensures
-    (writes_on_IsOk-append g.W.Write.write_str_gives _ _ _ _ _ _ _ (λ _. went_on c.write-set.result tt c.in-ok-write-set.was) c.write-set.ensures
-    (writes_on_IsOk-append g.W.Write.write_str_gives _ _ _ _ _ _ _ (λ _. went_on c.write-atoms.result tt c.in-ok-write-atoms.was) c.write-atoms.ensures
-    (writes_on_IsOk-append g.W.Write.write_str_gives _ _ _ _ _ _ _ (λ _. went_on c.write-fairness.result tt c.in-ok-write-fairness.was) c.write-fairness.ensures c.write-rows.ensures)))
+    writes_on_IsOk-append g.W.Write.write_str_gives _ _ _ _ _ _ _ (λ _. went_on c.write_counts.result tt c.in_ok-write_counts.was) c.write_counts.ensures
+    (writes_on_IsOk-append g.W.Write.write_str_gives _ _ _ _ _ _ _ (λ _. went_on c.write_set.result tt c.in_ok-write_set.was) c.write_set.ensures
+    (writes_on_IsOk-append g.W.Write.write_str_gives _ _ _ _ _ _ _ (λ _. went_on c.write_atoms.result tt c.in_ok-write_atoms.was) c.write_atoms.ensures
+    (writes_on_IsOk-append g.W.Write.write_str_gives _ _ _ _ _ _ _ (λ _. went_on c.write_fairness.result tt c.in_ok-write_fairness.was) c.write_fairness.ensures c.write_rows.ensures)))

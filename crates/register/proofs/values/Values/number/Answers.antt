@@ -10,11 +10,11 @@ use Rattle.register.proofs.values.Values.number.Goals as goal
 pub loop-q-init : goal.loop-q-init
 loop-q-init c = sym (at_drop_all (λ ns. number (map (value (known c.args.self.now)) ns)) c.args.names.now (length c.args.names.now) (omega arith))
 
-pub overflow-mul-total : goal.overflow-mul-total
-overflow-mul-total c = omega (arith, c.loop-q.invariant, number_bound (known c.args.self.now) c.args.names.now c.loop-q.q (search rules))
+pub overflow_mul-total : goal.overflow_mul-total
+overflow_mul-total c = omega (arith, c.loop-q.invariant, number_bound (known c.args.self.now) c.args.names.now c.loop-q.q (search rules))
 
-pub overflow-add-total : goal.overflow-add-total
-overflow-add-total c = omega (arith, c.loop-q.invariant, number_bound (known c.args.self.now) c.args.names.now c.loop-q.q (search rules), byte_small c.value.result)
+pub overflow_add-total : goal.overflow_add-total
+overflow_add-total c = omega (arith, c.loop-q.invariant, number_bound (known c.args.self.now) c.args.names.now c.loop-q.q (search rules), byte_small c.value.result)
 
 pub loop-q-preserved : goal.loop-q-preserved
 loop-q-preserved c =

@@ -9,4 +9,4 @@ pub loop-left-preserved : goal.loop-left-preserved
 loop-left-preserved c =
     let bs = c.loop-left.left.now in
     let rest = take (length bs - 2) (drop 2 bs) in
-    (c.loop-left.invariant.0 ∙ with_gates_more (known c.loop-left.self) bs (search rules) ∙ ap (λ vs. with_gates vs (gates_of rest)) (sym c.push-gate.ensures.known), search rules)
+    (c.loop-left.invariant.0 ∙ with_gates_more (known c.loop-left.self) bs (search rules) ∙ ap (λ vs. with_gates vs (gates_of rest)) (sym c.push_gate.ensures.known), search rules)
