@@ -2,12 +2,12 @@
 ghost use Rattle.std.specs.Prelude.{◌≡◌, ℕ, ◌≤◌, List, IfSome};
 ghost use Rattle.fault.specs.Faults.{moved_by};
 ghost use Rattle.table.specs.Meaning.{Meaning};
-ghost use Rattle.casefile.specs.Parts.{part_in, laid_in};
-ghost use Rattle.casetable.specs.Tables.{and_then, side_by_side, with_second as with_second_of, behind, table_of};
+ghost use Rattle.casefile.specs.Parts.{part_in, laid_in, Placed};
+ghost use Rattle.casetable.specs.Tables.{and_then, side_by_side, with_second as with_second_of, behind, table_of, table_in};
 ghost use Rattle.casetable.specs.Task.{Done};
 ghost use Rattle.casetable.specs.Inner.{moved_in, held};
 
-use casefile::{Contents, Kind, Section};
+use casefile::{Contents, Kind, Section, read_contents};
 use compose::pair::Pair;
 use compose::renamed::Renamed;
 use fault::{Cause, Fault};
@@ -27,19 +27,20 @@ pub trait Task<C, A> {
 }
 
 // The fault of a section that begins at `at`, as a fault of the file.
-fn moved(fault: Fault, at: u32) -> Fault
-    requires { fault.place ≤ 65536 }
+fn moved(fault: Fault, at: usize) -> Fault
+    requires { (at ≤ 65536) × (fault.place ≤ 65536) }
     ensures { result ≡ moved_by at fault }
 {
     Fault {
         cause: fault.cause,
-        place: at as usize + fault.place,
+        place: at + fault.place,
     }
 }
 
 // The fault of a section, if it was refused, as a fault of the file.
-fn refusal(fault: Option<Fault>, at: u32) -> Option<Fault>
-    requires { IfSome fault (λ e. e.place ≤ 65536) }
+fn refusal(fault: Option<Fault>, at: usize) -> Option<Fault>
+    requires at { at ≤ 65536 }
+    requires place { IfSome fault (λ e. e.place ≤ 65536) }
     ensures { result ≡ moved_in at fault }
 {
     match fault {
@@ -55,6 +56,7 @@ fn with_wiring<T: Table + Drop, C, A, K: Task<C, A>>(
     task: &K,
     context: &mut C,
 ) -> Result<A, Fault>
+    requires { section.at ≤ 65536 }
     ensures { Done (behind (part_in section.entry) (record { meaning = T.Table.meaning table; targets = T.Table.targets table })) result (K.Task.done task.now) context.old context.new }
 {
     let wiring = match Wiring::read(section.bytes) {
@@ -76,6 +78,7 @@ fn with_second<F: Table + Drop, S: Table + Drop, C, A, K: Task<C, A>>(
     task: &K,
     context: &mut C,
 ) -> Result<A, Fault>
+    requires { wiring.at ≤ 65536 }
     ensures { Done (and_then (and_then (held refused (record { meaning = S.Table.meaning second; targets = S.Table.targets second })) (side_by_side (record { meaning = F.Table.meaning first; targets = F.Table.targets first }))) (behind (part_in wiring.entry))) result (K.Task.done task.now) context.old context.new }
 {
     if let Some(fault) = refused {
@@ -99,6 +102,7 @@ fn with_first<F: Table + Drop, C, A, K: Task<C, A>>(
     task: &K,
     context: &mut C,
 ) -> Result<A, Fault>
+    requires { Placed contents.now }
     ensures { Done (and_then (and_then (held refused (record { meaning = F.Table.meaning first; targets = F.Table.targets first })) (with_second_of (laid_in contents.now))) (behind (part_in contents.now.wiring))) result (K.Task.done task.now) context.old context.new }
 {
     if let Some(fault) = refused {
@@ -122,12 +126,13 @@ fn with_first<F: Table + Drop, C, A, K: Task<C, A>>(
     }
 }
 
-// Does the task with the table of a file, whose sections are given; or tells the file's first fault from 3 to 9.
-pub fn with_table<C, A, K: Task<C, A>>(
+// Does the task with the table that the sections of a file lay out; or tells the first fault from 3 to 9.
+fn with_contents<C, A, K: Task<C, A>>(
     contents: &Contents<'_>,
     task: &K,
     context: &mut C,
 ) -> Result<A, Fault>
+    requires { Placed contents.now }
     ensures { Done (table_of (laid_in contents.now)) result (K.Task.done task.now) context.old context.new }
 {
     let section = contents.first;
@@ -142,5 +147,15 @@ pub fn with_table<C, A, K: Task<C, A>>(
             let refused = refusal(first.fault(), section.at);
             with_first(first, refused, contents, task, context)
         }
+    }
+}
+
+// Does the task with the table of a case file; or tells the file's first fault from 1 to 9.
+pub fn with_table<C, A, K: Task<C, A>>(file: &[u8], task: &K, context: &mut C) -> Result<A, Fault>
+    ensures { Done (table_in file.now) result (K.Task.done task.now) context.old context.new }
+{
+    match read_contents(file) {
+        Ok(contents) => with_contents(&contents, task, context),
+        Err(fault) => Err(fault),
     }
 }

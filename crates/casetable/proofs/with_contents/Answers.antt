@@ -7,7 +7,7 @@ use Rattle.casefile.specs.Parts.{laid_in}
 use Rattle.casetable.specs.Tables.{table_at}
 use Rattle.casetable.specs.Task.{Done}
 use Rattle.casetable.proofs.Steps.{held_is, first_is}
-use Rattle.casetable.proofs.with_table.Goals as goal
+use Rattle.casetable.proofs.with_contents.Goals as goal
 
 pub returns-in-ListedTable : goal.returns-in-ListedTable
 returns-in-ListedTable g c =
