@@ -2,11 +2,8 @@
 ghost use Rattle.std.specs.Fmt.{WritesOnOk};
 ghost use Rattle.std.specs.Prelude.{Some};
 ghost use Rattle.tabletext.specs.Text.{table_text};
-ghost use Rattle.casefile.specs.Parts.{laid_in};
-ghost use Rattle.casetable.specs.Tables.{table_of};
-ghost use Rattle.filetext.specs.Text.{refusal_text, told_text, file_text};
+ghost use Rattle.filetext.specs.Text.{refusal_text, file_text};
 
-use casefile::{Contents, read_contents};
 use casetable::{Task, with_table};
 use fault::Fault;
 use std::fmt;
@@ -31,11 +28,11 @@ fn write_refusal<W: fmt::Write>(fault: Fault, f: &mut fmt::Formatter<W>) -> fmt:
     write!(f, "{fault}\n")
 }
 
-// The table of a file whose sections are given, or the line of its refusal.
-fn write_contents<W: fmt::Write>(contents: &Contents<'_>, f: &mut fmt::Formatter<W>) -> fmt::Result
-    ensures { WritesOnOk W.Write.write_str_gives f.old result (told_text (table_of (laid_in contents.now))) f.new }
+// The table of a file, or the line of its refusal.
+fn write_file<W: fmt::Write>(file: &[u8], f: &mut fmt::Formatter<W>) -> fmt::Result
+    ensures { WritesOnOk W.Write.write_str_gives f.old result (file_text file.now) f.new }
 {
-    match with_table(contents, &WriteTable, f) {
+    match with_table(file, &WriteTable, f) {
         Ok(written) => written,
         Err(fault) => write_refusal(fault, f),
     }
@@ -51,9 +48,6 @@ impl<'a> fmt::Display for FileText<'a> {
     ghost output = { λ c. Some (file_text c.file.now) };
 
     fn fmt<W: fmt::Write>(&self, f: &mut fmt::Formatter<W>) -> fmt::Result {
-        match read_contents(self.file) {
-            Ok(contents) => write_contents(&contents, f),
-            Err(fault) => write_refusal(fault, f),
-        }
+        write_file(self.file, f)
     }
 }
