@@ -1,4 +1,6 @@
 // boundary: reads each case file that the file `list` names, and prints its name with the first line of its text.
+#![tactic(auto)]
+
 use casefile::LIMIT;
 use casetext::CaseText;
 use std::fs::File;

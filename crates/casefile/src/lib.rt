@@ -1,4 +1,6 @@
 // Case files: a table or two, a wiring list, a formula and steps, one section each.
+#![tactic(auto)]
+
 ghost use Rattle.std.specs.Prelude.{◌≡◌, ◌+◌, ◌<◌, ◌≤◌, length, IfOk, Some};
 ghost use Rattle.casefile.specs.Contents.{u32_at, kind_of, kind_text, others_named, adding_up, contents_of};
 ghost use Rattle.casefile.specs.Parts.{viewed, Placed};

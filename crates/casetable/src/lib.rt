@@ -1,4 +1,6 @@
 // The table of a case file, and what is done with it.
+#![tactic(auto)]
+
 ghost use Rattle.std.specs.Prelude.{◌≡◌, ℕ, ◌≤◌, List, IfSome};
 ghost use Rattle.fault.specs.Faults.{moved_by};
 ghost use Rattle.table.specs.Meaning.{Meaning};

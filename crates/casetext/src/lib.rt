@@ -1,4 +1,6 @@
 // Case files as text.
+#![tactic(auto)]
+
 ghost use Rattle.std.specs.Prelude.{◌≡◌, ◌≤◌, Some, Ok};
 ghost use Rattle.std.specs.Fmt.{WritesOnOk};
 ghost use Rattle.listing.specs.Read.{read_of};

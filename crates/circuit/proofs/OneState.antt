@@ -1,4 +1,4 @@
--- The circuit without registers means the one_state table.
+-- The circuit without registers means the one-state table.
 use Rattle.std.proofs.Common.{◌≡◌, ℕ, ◌<◌, sym, refl, ap, ◌∙◌, ap₂, arith}
 use Rattle.table.specs.Moves.{some_below}
 use Rattle.table.specs.Same.{SameMeaning}

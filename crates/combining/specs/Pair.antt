@@ -25,7 +25,7 @@ both A B = record {
   moves = λ s t. A.moves (s / B.states) (t / B.states) && B.moves (s % B.states) (t % B.states);
 }
 
--- The pair of two tables; past the limits it is the one_state table.
+-- The pair of two tables; past the limits it is the one-state table.
 abbrev pub pair : Meaning → Meaning → Meaning
 pair A B = cond (fits A B) (both A B) one_state
 

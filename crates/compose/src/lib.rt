@@ -1,4 +1,6 @@
 // Tables made of tables.
+#![tactic(auto)]
+
 pub mod pair;
 pub mod renamed;
 #[cfg(test)]

@@ -1,4 +1,6 @@
 // Why a case file is refused, and where.
+#![tactic(auto)]
+
 ghost use Rattle.std.specs.Prelude.{◌≡◌, ◌<◌, length, IfSome, Some};
 ghost use Rattle.fault.specs.Checks.{first_past};
 ghost use Rattle.fault.specs.Faults.{number_of, line_of};

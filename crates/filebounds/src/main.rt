@@ -1,5 +1,7 @@
 // filebounds: reads case files, and prints the first line of the text of those that the file `list` names, and the whole
 // text of those that `texts` names; then the text of a pair of a pair.
+#![tactic(auto)]
+
 use casefile::{LIMIT, read_contents};
 use compose::pair::Pair;
 use filetext::FileText;

@@ -1,4 +1,6 @@
 // Case files as text.
+#![tactic(auto)]
+
 ghost use Rattle.std.specs.Fmt.{WritesOnOk};
 ghost use Rattle.std.specs.Prelude.{Some};
 ghost use Rattle.tabletext.specs.Text.{table_text};

@@ -1,4 +1,6 @@
 // Listed tables: a table whose moves are listed one by one in the bytes of a section.
+#![tactic(auto)]
+
 ghost use Rattle.std.specs.Prelude.{◌≡◌, ℕ, suc, ◌+◌, ◌*◌, ◌<◌, ◌≤◌, true, false, [], ◌∷◌, length, IfSome, Err, slice_index, slice_index_or};
 ghost use Rattle.table.specs.Same.{SameMeaning};
 ghost use Rattle.table.specs.OneState.{one_state};
@@ -13,7 +15,7 @@ use fault::Fault;
 use listing::{Parts, read};
 use table::Table;
 
-// A table for any bytes: the one that a section lays out, or the one_state table where the section is refused.
+// A table for any bytes: the one that a section lays out, or the one-state table where the section is refused.
 #[derive(Clone, Copy)]
 pub struct Listed<'a> {
     parts: Parts<'a>,

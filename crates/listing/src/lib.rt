@@ -1,4 +1,6 @@
 // The layout of a listed table: reading and checking its section.
+#![tactic(auto)]
+
 ghost use Rattle.std.specs.Prelude.{◌≡◌, ◌+◌, ◌*◌, ◌≤◌, length, IfOk, IfErr, OnOk};
 ghost use Rattle.stateset.specs.Sets.{FlagsAreBits};
 ghost use Rattle.listing.specs.Numbers.{u16s};

@@ -1,4 +1,6 @@
-// The one_state table.
+// The one-state table.
+#![tactic(auto)]
+
 ghost use Rattle.table.specs.OneState.{one_state, one_state_targets};
 ghost use Rattle.table.proofs.OneState.{one_faithful};
 

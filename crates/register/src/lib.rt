@@ -1,4 +1,6 @@
 // Register tables: a table whose states are the contents of registers, in the bytes of a section.
+#![tactic(auto)]
+
 ghost use Rattle.std.specs.Prelude.{◌≡◌, ◌^◌, ◌<◌, ◌≤◌, true, false, length, IfSome, Err, slice_index};
 ghost use Rattle.fault.specs.Checks.{or_else, fault_in};
 ghost use Rattle.table.specs.Same.{SameMeaning};
@@ -19,7 +21,7 @@ mod parts;
 mod read;
 mod values;
 
-// A table for any bytes: the circuit that a section lays out, or the one_state table where the section is refused.
+// A table for any bytes: the circuit that a section lays out, or the one-state table where the section is refused.
 #[derive(Clone, Copy)]
 pub struct Register<'a> {
     parts: Parts<'a>,

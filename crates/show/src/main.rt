@@ -1,4 +1,6 @@
 // show: prints the first table of a case file, read from standard input, as text.
+#![tactic(auto)]
+
 use casefile::LIMIT;
 use casetext::CaseText;
 use std::io;

@@ -1,4 +1,6 @@
 // showfile: prints the table of a case file, read from standard input, as text.
+#![tactic(auto)]
+
 use casefile::LIMIT;
 use filetext::FileText;
 use std::io;

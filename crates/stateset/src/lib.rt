@@ -1,4 +1,6 @@
 // Sets of states as rows of bytes: state s is bit s mod 8 of byte s / 8.
+#![tactic(auto)]
+
 ghost use Rattle.std.specs.Prelude.{◌≡◌, ◌/◌, ◌%◌, ◌^◌, ◌<◌, length, ◌==◌};
 ghost use Rattle.stateset.specs.Sets.{bit_at, unpack, none, set_of, clear};
 

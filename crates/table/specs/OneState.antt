@@ -1,4 +1,4 @@
--- The one_state table: what stands in for a table that cannot be had.
+-- The one-state table: what stands in for a table that cannot be had.
 use Rattle.std.specs.Prelude.{ℕ, false, cond, ◌&&◌, List, [], ◌∷◌, ◌==◌}
 use Rattle.table.specs.Meaning.{Meaning}
 

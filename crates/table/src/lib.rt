@@ -1,4 +1,6 @@
 // Transition tables: the interface that every kind of table has, and what it means.
+#![tactic(auto)]
+
 ghost use Rattle.std.specs.Prelude.{◌≡◌, ℕ, List, length, slice_index};
 ghost use Rattle.table.specs.Meaning.{Meaning};
 ghost use Rattle.table.specs.Faithful.{Faithful};

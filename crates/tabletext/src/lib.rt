@@ -1,4 +1,6 @@
 // A table as text: its counts, its sets, and a line a state.
+#![tactic(auto)]
+
 ghost use Rattle.std.specs.Prelude.{◌≡◌, Some};
 ghost use Rattle.std.specs.Fmt.{WritesOnOk};
 ghost use Rattle.tabletext.specs.Text.{

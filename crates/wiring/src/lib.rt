@@ -1,4 +1,6 @@
 // Wiring lists: for each atom of a rule, the number of the table's atom that it stands for.
+#![tactic(auto)]
+
 ghost use Rattle.std.specs.Prelude.{◌≡◌, ◌<◌, ◌≤◌, length, IfErr};
 ghost use Rattle.wiring.specs.Lists.{list_in, viewed, list_of, entry_of, entries_check};
 
