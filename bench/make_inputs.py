@@ -1,4 +1,4 @@
-"""Makes case files for measuring `show`: random tables, the wiring list naming every atom.
+"""Makes case files for measuring `show` and `showfile`: random tables, the wiring list naming every atom.
 
 usage: make_inputs.py FOLDER
 

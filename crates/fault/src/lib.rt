@@ -14,7 +14,8 @@ pub enum Cause {
     FileLength = 1,
     // the contents are short, have a wrong letter, or do not add up to the file
     Contents = 2,
-    // a table's leading counts are short or out of range, or the section has not the length that they announce
+    // a table's leading counts are short or out of range, or the section is too short for what they announce; a circuit's
+    // has exactly that length
     TableCounts = 3,
     // a set has a bit for a state that is not there
     StrayBit = 4,

@@ -5,7 +5,7 @@ ghost use Rattle.std.specs.Prelude.{◌≡◌, ◌^◌, ◌<◌, ◌≤◌, true
 ghost use Rattle.fault.specs.Checks.{or_else, fault_in};
 ghost use Rattle.table.specs.Same.{SameMeaning};
 ghost use Rattle.table.specs.OneState.{one_state};
-ghost use Rattle.circuit.specs.Table.{size as type_size, holds as holding, meaning_of, targets_of, usable, one_circuit};
+ghost use Rattle.circuit.specs.Table.{size as state_count, holds as holding, meaning_of, targets_of, usable, one_circuit};
 ghost use Rattle.circuit.specs.Read.{read_of};
 ghost use Rattle.circuit.specs.Law.{AcceptedIsLayout, LayoutIsAccepted, ValuesAre};
 ghost use Rattle.circuit.proofs.Faithful.{circuit_faithful};
@@ -92,7 +92,7 @@ impl<'a> Register<'a> {
 
     // How many states there are.
     fn size(&self) -> usize
-        ensures { result ≡ type_size (circuit_in self.now.parts) }
+        ensures { result ≡ state_count (circuit_in self.now.parts) }
     {
         power_of_two(self.parts.next.len())
     }

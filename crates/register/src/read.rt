@@ -5,7 +5,7 @@ ghost use Rattle.fault.specs.Faults.{fault};
 ghost use Rattle.fault.specs.declared.Cause.TheVariants.{TableCounts, ValueNumber};
 ghost use Rattle.table.specs.Moves.{some_below};
 ghost use Rattle.circuit.specs.Circuit.{gates_of};
-ghost use Rattle.circuit.specs.Table.{size as type_size, holds as holding, usable};
+ghost use Rattle.circuit.specs.Table.{size as state_count, holds as holding, usable};
 ghost use Rattle.circuit.specs.Read.{size_checks, gates_check, value_checks, read_of, body_check, circuit_of};
 ghost use Rattle.circuit.specs.Law.{AcceptedIsLayout, LayoutIsAccepted, ValuesAre};
 ghost use Rattle.register.specs.Parts.{circuit_in, viewed};
@@ -112,7 +112,7 @@ fn check_names(names: &[u8], limit: usize, from: usize) -> Result<(), Fault>
 // Whether some state starts.
 fn has_start(parts: &Parts<'_>) -> bool
     requires { Small parts.now }
-    ensures { result ≡ some_below (type_size (circuit_in parts.now)) (holding (circuit_in parts.now) parts.now.start) }
+    ensures { result ≡ some_below (state_count (circuit_in parts.now)) (holding (circuit_in parts.now) parts.now.start) }
 {
     for s in 0..power_of_two(parts.next.len()) {
         if holds(parts, parts.start, s) {
