@@ -1,7 +1,7 @@
 -- The text that tells a case file's first table.
-use Rattle.std.specs.Prelude.{ℕ, ◌+◌, cond, List, [], ◌++◌, length, Ok, Err, codes, Result, ◌==◌}
+use Rattle.std.specs.Prelude.{ℕ, cond, List, [], ◌++◌, length, Ok, Err, codes, Result, ◌==◌}
 use Rattle.fault.specs.declared.Fault.{Fault}
-use Rattle.fault.specs.Faults.{fault, line_of}
+use Rattle.fault.specs.Faults.{moved_by, line_of}
 use Rattle.listing.specs.Listed.{Listed, meaning_of, targets_of}
 use Rattle.listing.specs.Read.{read_of}
 use Rattle.casefile.specs.declared.Kind.{Kind}
@@ -9,18 +9,15 @@ use Rattle.casefile.specs.declared.Kind.TheVariants.{ListedTable, RegisterTable}
 use Rattle.casefile.specs.Contents.{kind_text, Part, Laid, contents_of}
 use Rattle.tabletext.specs.Text.{newline, table_text}
 
--- A refusal; in a section that begins at `at`, the place in the file is that much further on.
+-- The line of a refusal.
 abbrev pub refusal : Fault → List ℕ
 refusal e = line_of e ++ newline
-
-abbrev pub moved_by : ℕ → Fault → Fault
-moved_by at e = fault e.cause (at + e.place)
 
 -- What is not shown yet is named; a second table of length 0 is absent.
 abbrev pub second_text : Kind → Part → List ℕ
 second_text k p = cond (length p.bytes == 0) [] (codes "not shown yet: second table, section " ++ (kind_text k ++ newline))
 
--- A listed table and what follows it, or its refusal.
+-- A listed table and what follows it, or its refusal; the section begins at `at`.
 abbrev pub listed_text : ℕ → Result Listed Fault → List ℕ → List ℕ
 listed_text at (Ok t) more = table_text (meaning_of t) (targets_of t) ++ more
 listed_text at (Err e) more = refusal (moved_by at e)

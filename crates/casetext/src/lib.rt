@@ -4,7 +4,8 @@
 ghost use Rattle.std.specs.Prelude.{◌≡◌, ◌≤◌, Some, Ok};
 ghost use Rattle.std.specs.Fmt.{WritesOnOk};
 ghost use Rattle.listing.specs.Read.{read_of};
-ghost use Rattle.casetext.specs.Text.{refusal, moved_by, second_text, listed_text, contents_text, case_text};
+ghost use Rattle.fault.specs.Faults.{moved_by};
+ghost use Rattle.casetext.specs.Text.{refusal, second_text, listed_text, contents_text, case_text};
 ghost use Rattle.casefile.specs.Parts.{part_in, laid_in};
 
 use casefile::{Contents, Kind, Section, read_contents};
