@@ -1,8 +1,9 @@
 -- The contents of a case file: five entries, each a letter and a 32-bit length, and then the five sections without gaps.
-use Rattle.std.specs.Prelude.{ℕ, zero, suc, ◌+◌, ◌-◌, ◌*◌, Bool, cond, ◌&&◌, List, length, take, drop, Some, None, Ok, Err, codes, Option, Result, ◌==◌, nat_lt, slice_index}
+use Rattle.std.specs.Prelude.{ℕ, zero, suc, ◌+◌, ◌*◌, Bool, cond, ◌&&◌, List, length, Ok, Err, codes, Result, ◌==◌, nat_le, slice_index, slice_range}
 use Rattle.fault.specs.declared.Cause.TheVariants.{FileLength, Contents}
 use Rattle.fault.specs.declared.Fault.{Fault}
 use Rattle.fault.specs.Faults.{fault}
+use Rattle.fault.specs.Checks.{need, given, ◌>>=◌, ◌>>◌}
 use Rattle.casefile.specs.declared.Kind.{Kind}
 use Rattle.casefile.specs.declared.Kind.TheVariants.{ListedTable, RegisterTable}
 
@@ -23,8 +24,8 @@ begins file zero = 25
 begins file (suc i) = begins file i + size file i
 
 -- The kind of table that a letter names: T listed, R register.
-abbrev pub kind_of : ℕ → Option Kind
-kind_of b = cond (b == 84) (Some ListedTable) (cond (b == 82) (Some RegisterTable) None)
+abbrev pub kind_of : ℕ → Result Kind Fault
+kind_of b = cond (b == 84) (Ok ListedTable) (cond (b == 82) (Ok RegisterTable) (Err (fault Contents 0)))
 
 abbrev pub kind_text : Kind → List ℕ
 kind_text ListedTable = codes "T"
@@ -40,7 +41,7 @@ pub record Part : Type 0 where
   pub bytes : List ℕ
 
 abbrev pub part : List ℕ → ℕ → Part
-part file i = record { at = begins file i; bytes = take (begins file (suc i) - begins file i) (drop (begins file i) file) }
+part file i = record { at = begins file i; bytes = slice_range file (begins file i) (begins file (suc i)) }
 
 -- What the contents tell: the tables' kinds, and the five sections.
 pub record Laid : Type 0 where
@@ -63,20 +64,16 @@ laid file k l = record {
   steps = part file 4;
 }
 
-abbrev pub wrong : Result Laid Fault
-wrong = Err (fault Contents 0)
-
 -- The five lengths add up to the file.
 abbrev pub adding_up : List ℕ → Kind → Kind → Result Laid Fault
-adding_up file k l = cond (begins file 5 == length file) (Ok (laid file k l)) wrong
-
--- The letters are right.
-abbrev pub named : List ℕ → Option Kind → Option Kind → Result Laid Fault
-named file None l = wrong
-named file (Some k) None = wrong
-named file (Some k) (Some l) = cond (others_named file) (adding_up file k l) wrong
+adding_up file k l = given (need (begins file 5 == length file) (fault Contents 0)) (laid file k l)
 
 -- What a file's contents tell, or the fault: a file over 65,536 bytes before wrong contents.
 abbrev pub contents_of : List ℕ → Result Laid Fault
-contents_of file = cond (nat_lt 65536 (length file)) (Err (fault FileLength 0))
-    (cond (nat_lt (length file) 25) wrong (named file (kind_of (letter file 0)) (kind_of (letter file 1))))
+contents_of file = do
+  need (nat_le (length file) 65536) (fault FileLength 0)
+  need (nat_le 25 (length file)) (fault Contents 0)
+  first ← kind_of (letter file 0)
+  second ← kind_of (letter file 1)
+  need (others_named file) (fault Contents 0)
+  adding_up file first second

@@ -1,18 +1,18 @@
 // The table of a case file, and what is done with it.
 #![tactic(auto)]
 
-ghost use Rattle.std.specs.Prelude.{◌≡◌, ℕ, ◌≤◌, List, IfSome};
-ghost use Rattle.fault.specs.Faults.{moved_by};
+ghost use Rattle.std.specs.Prelude.{◌≡◌, ℕ, ◌≤◌, List, IfErr};
+// in a clause `>>=` is Rust's
+ghost use Rattle.fault.specs.Checks.{◌>>=◌ as ◌and_then◌};
 ghost use Rattle.table.specs.Meaning.{Meaning};
-ghost use Rattle.casefile.specs.Parts.{part_in, laid_in, Placed};
-ghost use Rattle.casetable.specs.Tables.{and_then, side_by_side, with_second as with_second_of, behind, table_of, table_in};
+ghost use Rattle.casefile.specs.Parts.{part_in, laid_in};
+ghost use Rattle.casetable.specs.Tables.{told, moved, side_by_side, with_second as with_second_of, behind, table_in};
 ghost use Rattle.casetable.specs.Task.{Done};
-ghost use Rattle.casetable.specs.Inner.{moved_in, held};
 
 use casefile::{Contents, Kind, Section, read_contents};
 use compose::pair::Pair;
 use compose::renamed::Renamed;
-use fault::{Cause, Fault};
+use fault::{Cause, Fault, need};
 use listed::Listed;
 use register::Register;
 use table::Table;
@@ -28,126 +28,77 @@ pub trait Task<C, A> {
         ensures { done self.now (T.Table.meaning table) (T.Table.targets table) context.old result context.new };
 }
 
-// The fault of a section that begins at `at`, as a fault of the file.
-fn moved(fault: Fault, at: usize) -> Fault
-    requires { (at ≤ 65536) × (fault.place ≤ 65536) }
-    ensures { result ≡ moved_by at fault }
+// What a section holds, as `read` tells it of the section's bytes; a fault is told of the file.
+fn read_at<'a, T, F: FnOnce(&'a [u8]) -> Result<T, Fault>>(
+    section: Section<'a>,
+    read: F,
+) -> Result<T, Fault>
+    requires callable { F.pre read section.bytes }
+    requires near { (r : _) → F.post read section.bytes r → IfErr r (λ e. e.place ≤ 65536) }
+    ensures { (r : _) × F.post read section.entry.bytes r × (result ≡ moved section.entry.at r) }
 {
-    Fault {
-        cause: fault.cause,
-        place: at + fault.place,
-    }
+    read(section.bytes).map_err(|fault| fault.moved_by(section.at))
 }
 
-// The fault of a section, if it was refused, as a fault of the file.
-fn refusal(fault: Option<Fault>, at: usize) -> Option<Fault>
-    requires at { at ≤ 65536 }
-    requires place { IfSome fault (λ e. e.place ≤ 65536) }
-    ensures { result ≡ moved_in at fault }
-{
-    match fault {
-        Some(fault) => Some(moved(fault, at)),
-        None => None,
-    }
-}
-
-// The table behind the wiring list.
+// The table behind the wiring list. `task` and `context` stay two parameters here and below, as they are in `with_table`.
 fn with_wiring<T: Table + Drop, C, A, K: Task<C, A>>(
     table: T,
     section: Section<'_>,
     task: &K,
     context: &mut C,
 ) -> Result<A, Fault>
-    requires { section.at ≤ 65536 }
-    ensures { Done (behind (part_in section.entry) (record { meaning = T.Table.meaning table; targets = T.Table.targets table })) result (K.Task.done task.now) context.old context.new }
+    ensures { let t = told (T.Table.meaning table) (T.Table.targets table) in
+        Done (behind (part_in section.entry) t) result (K.Task.done task.now) context.old context.new }
 {
-    let wiring = match Wiring::read(section.bytes) {
-        Ok(wiring) => wiring,
-        Err(fault) => return Err(moved(fault, section.at)),
-    };
-    match wiring.check(table.atoms()) {
-        Ok(()) => Ok(task.run(Renamed::new(table, wiring), context)),
-        Err(fault) => Err(moved(fault, section.at)),
-    }
+    let wiring = read_at(section, Wiring::read)?;
+    wiring
+        .check(table.atoms())
+        .map_err(|fault| fault.moved_by(section.at))?;
+    Ok(task.run(Renamed::new(table, wiring), context))
 }
 
-// The first table beside the second, which may have been refused.
+// The first table beside the second.
 fn with_second<F: Table + Drop, S: Table + Drop, C, A, K: Task<C, A>>(
     first: F,
     second: S,
-    refused: Option<Fault>,
     wiring: Section<'_>,
     task: &K,
     context: &mut C,
 ) -> Result<A, Fault>
-    requires { wiring.at ≤ 65536 }
-    ensures { Done (and_then (and_then (held refused (record { meaning = S.Table.meaning second; targets = S.Table.targets second })) (side_by_side (record { meaning = F.Table.meaning first; targets = F.Table.targets first }))) (behind (part_in wiring.entry))) result (K.Task.done task.now) context.old context.new }
+    ensures { let A = told (F.Table.meaning first) (F.Table.targets first) in
+        let B = told (S.Table.meaning second) (S.Table.targets second) in
+        Done (side_by_side A B and_then behind (part_in wiring.entry))
+        result (K.Task.done task.now) context.old context.new }
 {
-    if let Some(fault) = refused {
-        return Err(fault);
-    }
     let pair = Pair::new(first, second);
-    if !pair.fits() {
-        return Err(Fault {
-            cause: Cause::PairLimits,
-            place: 0,
-        });
-    }
+    need(pair.fits(), Cause::PairLimits.at(0))?;
     with_wiring(pair, wiring, task, context)
 }
 
-// The first table, which may have been refused, with the second, if there is one.
+// The first table with the second, if there is one.
 fn with_first<F: Table + Drop, C, A, K: Task<C, A>>(
     first: F,
-    refused: Option<Fault>,
     contents: &Contents<'_>,
     task: &K,
     context: &mut C,
 ) -> Result<A, Fault>
-    requires { Placed contents.now }
-    ensures { Done (and_then (and_then (held refused (record { meaning = F.Table.meaning first; targets = F.Table.targets first })) (with_second_of (laid_in contents.now))) (behind (part_in contents.now.wiring))) result (K.Task.done task.now) context.old context.new }
+    ensures { let A = told (F.Table.meaning first) (F.Table.targets first) in
+        let l = laid_in contents.now in
+        Done (with_second_of l A and_then behind l.wiring) result (K.Task.done task.now) context.old context.new }
 {
-    if let Some(fault) = refused {
-        return Err(fault);
-    }
     let section = contents.second;
-    if section.bytes.len() == 0 {
+    if section.bytes.is_empty() {
         return with_wiring(first, contents.wiring, task, context);
     }
+    // a table of each kind is a type of its own, for which the code below is made: so one arm for each
     match contents.second_kind {
         Kind::ListedTable => {
-            let second = Listed::of(section.bytes);
-            let refused = refusal(second.fault(), section.at);
-            with_second(first, second, refused, contents.wiring, task, context)
+            let second = read_at(section, Listed::read)?;
+            with_second(first, second, contents.wiring, task, context)
         }
         Kind::RegisterTable => {
-            let second = Register::of(section.bytes);
-            let refused = refusal(second.fault(), section.at);
-            with_second(first, second, refused, contents.wiring, task, context)
-        }
-    }
-}
-
-// Does the task with the table that the sections of a file lay out; or tells the first fault from 3 to 9.
-fn with_contents<C, A, K: Task<C, A>>(
-    contents: &Contents<'_>,
-    task: &K,
-    context: &mut C,
-) -> Result<A, Fault>
-    requires { Placed contents.now }
-    ensures { Done (table_of (laid_in contents.now)) result (K.Task.done task.now) context.old context.new }
-{
-    let section = contents.first;
-    match contents.first_kind {
-        Kind::ListedTable => {
-            let first = Listed::of(section.bytes);
-            let refused = refusal(first.fault(), section.at);
-            with_first(first, refused, contents, task, context)
-        }
-        Kind::RegisterTable => {
-            let first = Register::of(section.bytes);
-            let refused = refusal(first.fault(), section.at);
-            with_first(first, refused, contents, task, context)
+            let second = read_at(section, Register::read)?;
+            with_second(first, second, contents.wiring, task, context)
         }
     }
 }
@@ -156,8 +107,16 @@ fn with_contents<C, A, K: Task<C, A>>(
 pub fn with_table<C, A, K: Task<C, A>>(file: &[u8], task: &K, context: &mut C) -> Result<A, Fault>
     ensures { Done (table_in file.now) result (K.Task.done task.now) context.old context.new }
 {
-    match read_contents(file) {
-        Ok(contents) => with_contents(&contents, task, context),
-        Err(fault) => Err(fault),
+    let contents = read_contents(file)?;
+    // as above, one arm for each kind
+    match contents.first_kind {
+        Kind::ListedTable => {
+            let first = read_at(contents.first, Listed::read)?;
+            with_first(first, &contents, task, context)
+        }
+        Kind::RegisterTable => {
+            let first = read_at(contents.first, Register::read)?;
+            with_first(first, &contents, task, context)
+        }
     }
 }

@@ -1,5 +1,5 @@
 -- Reading the parts of a circuit is the inverse of laying them out.
-use Rattle.std.proofs.Common.{◌≡◌, ℕ, suc, ◌+◌, ◌-◌, ◌*◌, ◌<◌, List, [], ◌∷◌, ◌++◌, length, get_or, take, drop, sym, refl, ap, ◌∙◌, add-one, arith}
+use Rattle.std.proofs.Common.{◌≡◌, ℕ, suc, ◌+◌, ◌-◌, ◌*◌, ◌<◌, List, [], ◌∷◌, length, drop, refl, ap, ◌∙◌, add-one, arith}
 use Rattle.std.proofs.lemmas.List.{take-append-drop, drop_more, length-take-le, length-drop}
 use Rattle.circuit.specs.Circuit.{Gate, put_gates, gates_of, names}
 use Rattle.circuit.specs.Read.{Counts, gate_bytes, name_bytes, circuit_of, announced}
@@ -26,12 +26,7 @@ module _ (n : Counts) (rest : List ℕ) where
   -- The numbers of the values, cut and put together again.
   pub names_again : n.registers < length (name_bytes n rest) → names (circuit_of n rest) ≡ name_bytes n rest
   names_again l =
-      let bs = name_bytes n rest in
-      let one : drop (n.registers + 1) bs ≡ drop (suc n.registers) bs = ap (λ i. drop i bs) (add-one n.registers) in
-      ap (λ more. take n.registers bs ++ (get_or bs n.registers 0 ∷ more)) (take-append-drop n.atoms (drop (suc n.registers) bs))
-      ∙ ap (λ more. take n.registers bs ++ (get_or bs n.registers 0 ∷ more)) (sym one)
-      ∙ ap (λ more. take n.registers bs ++ more) (sym (drop_more bs n.registers 0 l))
-      ∙ take-append-drop n.registers bs
+      rw (take-append-drop n.atoms, ← add-one n.registers, ← drop_more (name_bytes n rest) n.registers 0 l) (take-append-drop n.registers (name_bytes n rest))
 
   -- The lengths of the parts, in a section of the length that its counts announce.
   module _ (long : length rest ≡ announced n) where

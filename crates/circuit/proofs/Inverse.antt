@@ -1,14 +1,18 @@
 -- A section that passes its checks is the layout of a lawful circuit, and every such layout passes.
-use Rattle.std.proofs.Common.{◌≡◌, ℕ, suc, ◌+◌, ◌-◌, ◌*◌, Bool, true, false, cond, ltb, leb, List, [], ◌∷◌, ◌++◌, map, length, get_or, take, drop, Some, None, Ok, Err, Option, sym, refl, ap, ◌∙◌, subst, ap₂, arith, length-append}
+use Rattle.std.proofs.Common.{◌≡◌, ℕ, suc, ◌+◌, ◌*◌, Bool, true, false, not, cond, ltb, leb, List, [], ◌∷◌, ◌++◌, map, length, get_or, take, drop, Some, None, Ok, Err, sym, refl, ap, ◌∙◌, subst, ap₂, arith, length-append, add-one}
 use lib.ListN.{length-map}
-use Rattle.std.proofs.lemmas.List.{take-append-drop, take_at, drop_at, get_or-append_right, get_or-map, drop-drop}
-use Rattle.std.proofs.lemmas.Bool.{and_parts, and_from, leb-true, le-leb, ltb-true, lt-ltb, eqb-true, eq-eqb, cond-true, cond-false, le-ltb}
+use Rattle.std.proofs.lemmas.List.Sums.{prefix_len_passes, prefix_len_is}
+use Rattle.std.proofs.lemmas.Bool.Decides.{nat_tests}
+use Rattle.std.proofs.Math.Seq.{drop-append-add}
+use Rattle.std.proofs.lemmas.Grind.{common_steps}
+use Rattle.std.proofs.lemmas.List.{take-append-drop, take_at, drop_at, get_or-map}
+use Rattle.std.proofs.lemmas.Bool.{and_parts, and_from, leb-true, le-leb, ltb-true, lt-ltb, eqb-true, eq-eqb, cond-false, le-ltb}
 use Rattle.fault.specs.declared.Cause.{Cause}
 use Rattle.fault.specs.declared.Cause.TheVariants.{ValueNumber}
 use Rattle.fault.specs.Faults.{fault}
-use Rattle.fault.specs.Checks.{Checked, need, first_past, none_past, given, later}
-use Rattle.fault.proofs.Order.{then_ok, need_true, need_from, AllOk, all_from, from_all, go}
-use Rattle.circuit.specs.Circuit.{Gate, Circuit, registers, put_gates, gates_of, names, encode}
+use Rattle.fault.specs.Checks.{Checked, need, first_past, none_past, given, first_of}
+use Rattle.fault.proofs.Order.{then_ok, need_true, need_from, all_from, from_all, go}
+use Rattle.circuit.specs.Circuit.{Gate, Circuit, registers, put_gates, names, encode}
 use Rattle.circuit.specs.Values.{value, values}
 use Rattle.circuit.specs.Table.{usable}
 use Rattle.circuit.specs.Read.{Counts, gate_bytes, circuit_of, announced, gates_check, value_checks, checks, body_check, read_body, read_of}
@@ -17,30 +21,20 @@ use Rattle.stateset.proofs.Numbers.{number_bit}
 use Rattle.circuit.proofs.Gates.{value_zero, value_register, value_input, value_gate}
 use Rattle.circuit.proofs.Codec.{length_put, gates_put, put_gates_of, names_again, names_long, gate_bytes_long, gates_long, next_long, atoms_long, fairs_long}
 
--- The checks of the value numbers, both ways.
-none_later : (c : Cause) (from : ℕ) (o : Option ℕ) → none_past c from (later o) ≡ Ok tt → none_past c (suc from) o ≡ Ok tt
-none_later c from None e = refl
-none_later c from (Some i) e = let z : ◌≡◌ {A = ℕ} 0 1 = cc in absurd (omega arith)
-
-later_none : (c : Cause) (from : ℕ) (o : Option ℕ) → none_past c (suc from) o ≡ Ok tt → none_past c from (later o) ≡ Ok tt
-later_none c from None e = refl
-later_none c from (Some i) e = let z : ◌≡◌ {A = ℕ} 0 1 = cc in absurd (omega arith)
-
-past_head : (c : Cause) (from : ℕ) (b : Bool) (o : Option ℕ) → none_past c from (cond b (later o) (Some 0)) ≡ Ok tt → (b ≡ true) × (none_past c from (later o) ≡ Ok tt)
-past_head c from true o e = (refl, e)
-past_head c from false o e = let z : ◌≡◌ {A = ℕ} 0 1 = cc in absurd (omega arith)
+-- The check of the value numbers, both ways.
+not_past : (c : Cause) (from i : ℕ) (b : Bool) → none_past c from (cond b (Some i) None) ≡ Ok tt → b ≡ false
+not_past c from i true e = cc
+not_past c from i false e = refl
 
 all_below : (c : Cause) (limit from : ℕ) (xs : List ℕ) → none_past c from (first_past limit xs) ≡ Ok tt → AllBelow limit xs
-all_below c limit from [] e = tt
-all_below c limit from (x ∷ xs) e =
-    let p = past_head c from (ltb x limit) (first_past limit xs) e in
-    (ltb-true x limit p.0, all_below c limit (suc from) xs (none_later c from (first_past limit xs) p.1))
+all_below c limit from xs e = λ k d l.
+    let none = not_past c from _ _ e in
+    grind (arith, nat_tests, prefix_len_passes (λ x. not (leb limit x)) xs k d)
 
 below_all : (c : Cause) (limit from : ℕ) (xs : List ℕ) → AllBelow limit xs → none_past c from (first_past limit xs) ≡ Ok tt
-below_all c limit from [] h = refl
-below_all c limit from (x ∷ xs) (l, h) =
-    ap (none_past c from) (cond-true (ltb x limit) (later (first_past limit xs)) (Some 0) (lt-ltb x limit l))
-    ∙ later_none c from (first_past limit xs) (below_all c limit (suc from) xs h)
+below_all c limit from xs h =
+    let all = prefix_len_is (λ x. not (leb limit x)) xs (length xs) 0 (omega arith) (λ k l. grind (arith, nat_tests, h k 0 l)) (λ l. absurd (omega arith)) in
+    ap (none_past c from) (cond-false _ _ None (le-ltb _ (length xs) (omega arith)))
 
 gates_below : (limit place : ℕ) (gs : List Gate) → gates_check limit place gs ≡ Ok tt → GatesBelow limit gs
 gates_below limit place [] e = tt
@@ -55,6 +49,11 @@ below_gates limit place (g ∷ gs) (l, r, h) =
     go _ _ (need_from _ _ (lt-ltb g.left limit l))
     ∙ go _ _ (need_from _ _ (lt-ltb g.right limit r))
     ∙ below_gates (limit + 1) (place + 2) gs h
+
+-- A lawful circuit is within the bounds of a table.
+pub lawful_usable : (c : Circuit) → Lawful c → usable c ≡ true
+unfolding usable
+lawful_usable c w = grind (arith, nat_tests)
 
 -- A body that passes: its circuit is lawful, and its layout is the body.
 module _ (n : Counts) (rest : List ℕ) (ok : body_check n rest ≡ Ok tt) where
@@ -83,16 +82,6 @@ module _ (n : Counts) (rest : List ℕ) (ok : body_check n rest ≡ Ok tt) where
         some_start = need_true _ _ last.1.1.0;
       }
 
-  pub accepted_usable : usable c ≡ true
-  unfolding usable
-  accepted_usable =
-      let l = lawful_of in
-      and_from _ _ (le-leb _ _ l.few_registers)
-      (and_from _ _ (le-leb _ _ l.few_inputs)
-      (and_from _ _ (le-leb _ _ l.few_gates)
-      (and_from _ _ (le-leb _ _ l.few_atoms)
-      (and_from _ _ (and_from _ _ (le-leb _ _ l.some_fair) (le-leb _ _ l.few_fairs)) l.some_start))))
-
   pub layout_of : encode c ≡ n.registers ∷ n.inputs ∷ n.gates ∷ n.atoms ∷ n.fairs ∷ rest
   layout_of =
       let gates_are = put_gates_of (gate_bytes n rest) n.gates (gate_bytes_long n rest long) in
@@ -106,7 +95,7 @@ read_long n rest = cond-false (ltb (length (n.registers ∷ n.inputs ∷ n.gates
 
 given_ok : {A : Type 0} (r : Checked) (x y : A) → given r x ≡ Ok y → (r ≡ Ok tt) × (x ≡ y)
 given_ok (Ok tt) x y e = (refl, cc)
-given_ok (Err f) x y e = let z : ◌≡◌ {A = ℕ} 0 1 = cc in absurd (omega arith)
+given_ok (Err f) x y e = absurd cc
 
 accepted_body : (n : Counts) (rest : List ℕ) (d : Circuit) → read_body n rest ≡ Ok d → (encode d ≡ n.registers ∷ n.inputs ∷ n.gates ∷ n.atoms ∷ n.fairs ∷ rest) × Lawful d
 accepted_body n rest d e =
@@ -114,14 +103,10 @@ accepted_body n rest d e =
     (ap encode (sym p.1) ∙ layout_of n rest p.0, subst Lawful p.1 (lawful_of n rest p.0))
 
 pub accepted_is_layout : AcceptedIsLayout
-accepted_is_layout [] d e = let z : ◌≡◌ {A = ℕ} 0 1 = cc in absurd (omega arith)
-accepted_is_layout (r ∷ []) d e = let z : ◌≡◌ {A = ℕ} 0 1 = cc in absurd (omega arith)
-accepted_is_layout (r ∷ h ∷ []) d e = let z : ◌≡◌ {A = ℕ} 0 1 = cc in absurd (omega arith)
-accepted_is_layout (r ∷ h ∷ g ∷ []) d e = let z : ◌≡◌ {A = ℕ} 0 1 = cc in absurd (omega arith)
-accepted_is_layout (r ∷ h ∷ g ∷ a ∷ []) d e = let z : ◌≡◌ {A = ℕ} 0 1 = cc in absurd (omega arith)
 accepted_is_layout (r ∷ h ∷ g ∷ a ∷ b ∷ rest) d e =
     let n : Counts = record { registers = r; inputs = h; gates = g; atoms = a; fairs = b } in
     accepted_body n rest d (sym (read_long n rest) ∙ e)
+accepted_is_layout _ d e = absurd cc
 
 -- The layout of a lawful circuit, read again.
 module _ (c : Circuit) (w : Lawful c) where
@@ -141,49 +126,27 @@ module _ (c : Circuit) (w : Lawful c) where
   tail = c.start ∷ (c.atoms ++ c.fairs)
 
   start_after : get_or (names c) (registers c) 0 ≡ c.start
-  start_after =
-      let z : registers c - registers c ≡ 0 = omega arith in
-      get_or-append_right c.next tail (registers c) (registers c) 0 refl (omega arith) ∙ ap (λ i. get_or tail i 0) z
+  start_after = grind (arith, common_steps)
 
   rest_after : drop (suc (registers c)) (names c) ≡ c.atoms ++ c.fairs
-  rest_after =
-      let e : suc (registers c) ≡ registers c + 1 = omega arith in
-      ap (λ i. drop i (names c)) e ∙ sym (drop-drop 1 (registers c) (names c)) ∙ ap (drop 1) (drop_at c.next tail (registers c) refl)
+  rest_after = rw (← add-one (registers c)) (drop-append-add c.next tail 1)
 
   read_again : circuit_of counts body ≡ c
-  read_again =
-      let gates_are : gates_of (take (2 * length c.gates) body) ≡ c.gates = ap gates_of gates_first ∙ gates_put c.gates in
-      let next_are : take (registers c) (drop (2 * length c.gates) body) ≡ c.next = ap (take (registers c)) names_after ∙ take_at c.next tail (registers c) refl in
-      let start_is : get_or (drop (2 * length c.gates) body) (registers c) 0 ≡ c.start = ap (λ bs. get_or bs (registers c) 0) names_after ∙ start_after in
-      let after : drop (suc (registers c)) (drop (2 * length c.gates) body) ≡ c.atoms ++ c.fairs = ap (drop (suc (registers c))) names_after ∙ rest_after in
-      let atoms_are : take (length c.atoms) (drop (suc (registers c)) (drop (2 * length c.gates) body)) ≡ c.atoms = ap (take (length c.atoms)) after ∙ take_at c.atoms c.fairs (length c.atoms) refl in
-      let fairs_are : drop (length c.atoms) (drop (suc (registers c)) (drop (2 * length c.gates) body)) ≡ c.fairs = ap (drop (length c.atoms)) after ∙ drop_at c.atoms c.fairs (length c.atoms) refl in
-      λ i. record { inputs = c.inputs; gates = gates_are i; next = next_are i; start = start_is i; atoms = atoms_are i; fairs = fairs_are i }
+  read_again = simp (names_after, gates_first, gates_put, start_after, rest_after, take_at c.next tail (registers c) refl, take_at c.atoms c.fairs (length c.atoms) refl, drop_at c.atoms c.fairs (length c.atoms) refl)
 
   body_long : length body ≡ announced counts
   body_long = omega (arith, length-append (put_gates c.gates) (names c), length_put c.gates, length-append c.next tail, length-append c.atoms c.fairs)
 
   passes : body_check counts body ≡ Ok tt
-  passes = from_all (checks counts body) (
-    need_from _ _ (and_from _ _ (le-leb _ _ w.some_register) (le-leb _ _ w.few_registers)),
-    (
-      need_from _ _ (le-leb _ _ w.few_inputs),
-      (
-        need_from _ _ (le-leb _ _ w.few_gates),
-        (
-          need_from _ _ (le-leb _ _ w.few_atoms),
-          (
-            need_from _ _ (and_from _ _ (le-leb _ _ w.some_fair) (le-leb _ _ w.few_fairs)),
-            (
-              need_from _ _ (eq-eqb _ _ body_long),
-              subst (λ x. AllOk (value_checks x)) (sym read_again)
-                  (below_gates _ _ _ w.gates, (below_all _ _ _ _ w.names, (need_from _ _ w.some_start, tt))),
-            ),
-          ),
-        ),
-      ),
-    ),
-  )
+  passes =
+      go _ _ (need_from _ _ (and_from _ _ (le-leb _ _ w.some_register) (le-leb _ _ w.few_registers)))
+      ∙ go _ _ (need_from _ _ (le-leb _ _ w.few_inputs))
+      ∙ go _ _ (need_from _ _ (le-leb _ _ w.few_gates))
+      ∙ go _ _ (need_from _ _ (le-leb _ _ w.few_atoms))
+      ∙ go _ _ (need_from _ _ (and_from _ _ (le-leb _ _ w.some_fair) (le-leb _ _ w.few_fairs)))
+      ∙ go _ _ (need_from _ _ (eq-eqb _ _ body_long))
+      ∙ ap (λ x. first_of (value_checks x)) read_again
+      ∙ from_all (value_checks c) (below_gates _ _ _ w.gates, (below_all _ _ _ _ w.names, (need_from _ _ w.some_start, tt)))
 
 pub layout_is_accepted : LayoutIsAccepted
 layout_is_accepted c w = read_long (counts c w) (body c w) ∙ ap (λ r. given r (circuit_of (counts c w) (body c w))) (passes c w) ∙ ap Ok (read_again c w)

@@ -1,6 +1,6 @@
 pub mod Gates
 pub mod Faithful
-pub mod Questions
 pub mod Codec
 pub mod Inverse
 pub mod OneState
+pub mod Told

@@ -1,5 +1,5 @@
 -- What holds of every circuit, in the words of its parts; and that reading and laying out are inverse.
-use Rattle.std.specs.Prelude.{◌≡◌, ℕ, ◌+◌, ◌-◌, ◌*◌, ◌/◌, ◌%◌, ◌^◌, ◌<◌, ◌≤◌, Bool, true, false, cond, List, [], ◌∷◌, length, Ok, ◌==◌, slice_index, slice_index_or}
+use Rattle.std.specs.Prelude.{◌≡◌, ℕ, ◌+◌, ◌-◌, ◌*◌, ◌/◌, ◌%◌, ◌^◌, ◌<◌, ◌≤◌, Bool, true, false, cond, List, [], ◌∷◌, length, All, Ok, ◌==◌, slice_index, slice_index_or}
 use Rattle.table.specs.Moves.{some_below}
 use Rattle.circuit.specs.Circuit.{Gate, Circuit, registers, count, names, encode}
 use Rattle.circuit.specs.Values.{value, values}
@@ -8,8 +8,7 @@ use Rattle.circuit.specs.Read.{read_of}
 
 -- Every number is below the limit; every operand of a gate is below the gate, the first of which has number `limit`.
 abbrev pub AllBelow : ℕ → List ℕ → Type 0
-AllBelow limit [] = Unit {0}
-AllBelow limit (x ∷ xs) = (x < limit) × AllBelow limit xs
+AllBelow limit xs = All (λ x. x < limit) xs
 
 abbrev pub GatesBelow : ℕ → List Gate → Type 0
 GatesBelow limit [] = Unit {0}

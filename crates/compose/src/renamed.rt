@@ -52,7 +52,7 @@ impl<T: Table> Table for Renamed<T> {
 
     fn in_atom(&self, j: usize, s: usize) -> bool {
         match self.wiring.entry(j) {
-            Some(i) => self.table.in_atom(i as usize, s),
+            Some(i) => self.table.in_atom(usize::from(i), s),
             None => false,
         }
     }

@@ -40,9 +40,6 @@ first_append [] ds = refl
 first_append (Ok u ∷ cs) ds = first_append cs ds
 first_append (Err e ∷ cs) ds = refl
 
--- A check that stops, and one that lets the next go on.
-pub stop : (r s : Checked) (f : Fault) → r ≡ Err f → then r s ≡ Err f
-stop r s f e = ap (λ x. then x s) e
-
+-- A check that lets the next go on.
 pub go : (r s : Checked) → r ≡ Ok tt → then r s ≡ s
 go r s e = ap (λ x. then x s) e

@@ -25,6 +25,9 @@ fault c p = record { cause = c; place = p }
 abbrev pub moved_by : ℕ → Fault → Fault
 moved_by from e = fault e.cause (from + e.place)
 
--- The line: `refused`, the number, the place.
+-- How a fault is told: `refused`, the number, the place. The line of a refusal is that, and the line's end.
 abbrev pub line_of : Fault → List ℕ
 line_of e = codes "refused " ++ (decimal (number_of e.cause) ++ (codes " " ++ decimal e.place))
+
+abbrev pub refusal_line : Fault → List ℕ
+refusal_line e = line_of e ++ codes "\n"

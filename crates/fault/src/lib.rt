@@ -1,9 +1,9 @@
 // Why a case file is refused, and where.
 #![tactic(auto)]
 
-ghost use Rattle.std.specs.Prelude.{◌≡◌, ◌<◌, length, IfSome, Some};
-ghost use Rattle.fault.specs.Checks.{first_past};
-ghost use Rattle.fault.specs.Faults.{number_of, line_of};
+ghost use Rattle.std.specs.Prelude.{◌≡◌, ◌+◌, ◌-◌, ◌^◌, ◌<◌, ◌≤◌, length, IfSome, IfErr, Some};
+ghost use Rattle.fault.specs.Checks.{need, first_past, none_past};
+ghost use Rattle.fault.specs.Faults.{number_of, fault, moved_by, line_of};
 
 use std::fmt;
 
@@ -34,7 +34,7 @@ pub enum Cause {
 }
 
 impl Cause {
-    // The fault's number.
+    // The fault's number. Two causes share one, so no discriminant alone gives it, and a `From` would not say what it is.
     pub fn number(self) -> u8
         ensures { result ≡ number_of self }
     {
@@ -43,13 +43,38 @@ impl Cause {
             _ => self as u8,
         }
     }
+
+    // The fault of this cause at a place.
+    pub fn at(self, place: usize) -> Fault
+        ensures { result ≡ fault self place }
+    {
+        Fault { cause: self, place }
+    }
 }
 
-// A cause, and the offset at which it was found.
+// A cause, and the offset at which it was found. That is any number: a bound here would ask more of whoever makes a fault, so
+// each reader of a section promises its own.
 #[derive(Clone, Copy, Debug, PartialEq)]
 pub struct Fault {
     pub cause: Cause,
     pub place: usize,
+}
+
+impl Fault {
+    // A fault told from the beginning of a part, as one of the whole in which the part begins at `from`.
+    pub fn moved_by(self, from: usize) -> Fault
+        ensures moved { from + self.place < 2 ^ 64 → result ≡ moved_by from self }
+        ensures past { 2 ^ 64 ≤ from + self.place → result ≡ fault self.cause (2 ^ 64 - 1) }
+    {
+        self.cause.at(self.place.saturating_add(from))
+    }
+}
+
+// A check: passed where the condition holds, or else the fault.
+pub fn need(holds: bool, fault: Fault) -> Result<(), Fault>
+    ensures { result ≡ need holds fault }
+{
+    if holds { Ok(()) } else { Err(fault) }
 }
 
 // Where the first number that is not below the limit stands, from 0.
@@ -57,12 +82,18 @@ pub fn first_past(numbers: &[u8], limit: usize) -> Option<usize>
     ensures value { result ≡ first_past limit numbers.now }
     ensures inside { IfSome result (λ i. i < length numbers.now) }
 {
-    for i in 0..numbers.len() {
-        if numbers[i] as usize >= limit {
-            return Some(i);
-        }
+    numbers.iter().position(|x| usize::from(*x) >= limit)
+}
+
+// No number of a row that begins at `from` is past the limit.
+pub fn none_past(numbers: &[u8], limit: usize, cause: Cause, from: usize) -> Result<(), Fault>
+    ensures value { from + length numbers.now < 2 ^ 64 → result ≡ none_past cause from (first_past limit numbers.now) }
+    ensures place { IfErr result (λ e. e.place < from + length numbers.now) }
+{
+    match first_past(numbers, limit) {
+        Some(i) => Err(cause.at(i).moved_by(from)),
+        None => Ok(()),
     }
-    None
 }
 
 impl fmt::Display for Fault {

@@ -2,44 +2,33 @@
 // text of those that `texts` names; then the text of a pair of a pair.
 #![tactic(auto)]
 
-use casefile::{LIMIT, read_contents};
+use casefile::read_contents;
+use caseio::{open_case, write_line};
 use compose::pair::Pair;
 use filetext::FileText;
 use listed::Listed;
 use register::Register;
-use std::fs::File;
-use std::io::Read;
 use std::{fs, io};
 use tabletext::TableText;
 
-// The bytes of a file, and never more of them than one past the longest case file.
-fn read_case(rt: &HostRuntime, name: &str) -> io::Result<Vec<u8>> {
-    let mut bytes = Vec::new(rt.alloc());
-    let file = File::open(rt, name)?;
-    file.take(LIMIT as u64 + 1).read_to_end(&mut bytes)?;
-    Ok(bytes)
-}
-
 // The line of a case file: its name, and the first line of its text.
 fn print_line(rt: &HostRuntime, name: &str) -> io::Result<()> {
-    let bytes = read_case(rt, name)?;
-    let text = format!(in rt.alloc(); "{}", FileText { file: &bytes })?;
-    let first = text.lines().next().unwrap_or("");
-    println!(rt; "{name}: {first}")
+    let file = open_case(rt, name)?;
+    write_line(rt.alloc(), &mut rt.stdout(), name, FileText { file: &file })
 }
 
 // The name of a case file, and its text.
 fn print_text(rt: &HostRuntime, name: &str) -> io::Result<()> {
-    let bytes = read_case(rt, name)?;
+    let file = open_case(rt, name)?;
     println!(rt; "{name}:")?;
-    rt.print(FileText { file: &bytes })
+    rt.print(FileText { file: &file })
 }
 
 // The tables of a case file, a listed one and a circuit, side by side, and beside them the first once more.
 fn print_nested(rt: &HostRuntime, name: &str) -> io::Result<()> {
-    let bytes = read_case(rt, name)?;
+    let file = open_case(rt, name)?;
     println!(rt; "nested:")?;
-    match read_contents(&bytes) {
+    match read_contents(&file) {
         Ok(contents) => {
             let first = Listed::of(contents.first.bytes);
             let pair = Pair::new(first, Register::of(contents.second.bytes));

@@ -8,9 +8,9 @@ use Rattle.stateset.proofs.Flags.{length_bits}
 use Rattle.stateset.proofs.Numbers.{number_bits, bits_number}
 use Rattle.listing.specs.Numbers.{put16s, u16s}
 use Rattle.listing.specs.Sets.{pack, put_sets, sets_of, past}
-use Rattle.listing.specs.Rows.{counts, all_of, dealt, last_of}
+use Rattle.listing.specs.Rows.{counts, all_of, dealt, last_of, Rises}
 use Rattle.listing.specs.Listed.{Sized}
-use Rattle.listing.proofs.Dealing.{Rises, rises_to}
+use Rattle.listing.proofs.Dealing.{rises_to}
 
 -- Each of the first m sets has no bit at n or above.
 abbrev pub clears : (n k m : ℕ) → List ℕ → Bool

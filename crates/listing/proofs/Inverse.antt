@@ -8,16 +8,16 @@ use Rattle.fault.specs.Faults.{fault}
 use Rattle.stateset.specs.Sets.{Bytes, none, set_of, clear}
 use Rattle.listing.specs.Numbers.{put16s, u16s}
 use Rattle.listing.specs.Sets.{width, pack, put_sets, sets_of, past}
-use Rattle.listing.specs.Rows.{counts, all_of, dealt, last_of}
+use Rattle.listing.specs.Rows.{counts, all_of, dealt, last_of, Rises}
 use Rattle.listing.specs.Listed.{Listed, Lawful, Climbs, Rising, body, encode}
-use Rattle.fault.specs.Checks.{Checked, need, then, between, given}
+use Rattle.fault.specs.Checks.{Checked, then, between, given}
 use Rattle.listing.specs.Check.{sets_check, counts_check, row_check, rows_check}
 use Rattle.listing.specs.Read.{others, count_bytes, target_bytes, table_of, checks, body_check, read_body}
 use Rattle.listing.specs.Layout.{AcceptedIsLayout, LayoutIsAccepted}
-use Rattle.listing.proofs.Dealing.{length_u16s, Rises}
+use Rattle.listing.proofs.Dealing.{length_u16s}
 use Rattle.listing.proofs.Codec.{clears, u16s_put, put_u16s, put_sets_of, sets_of_put, counts_dealt, all_dealt, dealt_counts, bytes_take, bytes_drop, length_pack}
 use Rattle.listing.proofs.Passed.{Passed, passed_of, lawful_of, length_sets, length_past}
-use Rattle.fault.proofs.Order.{from_all}
+use Rattle.fault.proofs.Order.{need_from, from_all}
 
 given_ok : (r : Checked) (t u : Listed) → given r t ≡ Ok u → (r ≡ Ok tt) × (t ≡ u)
 given_ok (Ok tt) t u e = (refl, cc)
@@ -37,9 +37,6 @@ moves_back n bs h b r e =
     ap₂ (λ x y. put16s x ++ put16s y) (counts_dealt 0 (u16s (take (2 * n) bs)) (u16s (drop (2 * n) bs)) r (omega arith)) (all_dealt 0 (u16s (take (2 * n) bs)) (u16s (drop (2 * n) bs)) r (omega arith))
     ∙ ap₂ (λ x y. x ++ y) (put_u16s (take (2 * n) bs) n (length-take-le (2 * n) bs h) (bytes_take (2 * n) bs b)) (put_u16s (drop (2 * n) bs) (last_of 0 (u16s (take (2 * n) bs))) e (bytes_drop (2 * n) bs b))
     ∙ take-append-drop (2 * n) bs
-
-true_need : (b : Bool) (f : Fault) → b ≡ true → need b f ≡ Ok tt
-true_need b f e = ap (λ x. need x f) e
 
 body_back : (n a b : ℕ) (rest : List ℕ) → Bytes rest → Passed n a b rest → body (table_of n a b rest) ≡ rest
 body_back n a b rest bytes p =
@@ -142,22 +139,22 @@ body_read t w =
     let size : length (body t) ≡ suc (a + b) * k + (2 * n + length (put16s ts)) = length-append (put_sets k ss) tail ∙ ap₂ (λ x y. x + y) (length_put_sets k ss ∙ ap (λ m. m * k) len) (length-append (put16s cs) (put16s ts) ∙ ap (λ x. x + length (put16s ts)) many) in
     let fill : length (target_bytes n a b (body t)) ≡ 2 * last_of 0 (u16s (count_bytes n a b (body t))) = ap length gs ∙ length_put16s ts ∙ ap (λ i. 2 * i) (sym (ap (last_of 0) es ∙ last_counts 0 t.rows ∙ omega arith)) in
     let passes : body_check n a b (body t) ≡ Ok tt = from_all (checks n a b (body t)) (
-      true_need _ _ (and_from _ _ (le-leb 1 n w.some_state) (le-leb n 1024 w.few_states)),
+      need_from _ _ (and_from _ _ (le-leb 1 n w.some_state) (le-leb n 1024 w.few_states)),
       (
-        true_need _ _ (le-leb a 16 w.few_atoms),
+        need_from _ _ (le-leb a 16 w.few_atoms),
         (
-          true_need _ _ (and_from _ _ (le-leb 1 b w.some_fair) (le-leb b 4 w.few_fairs)),
+          need_from _ _ (and_from _ _ (le-leb 1 b w.some_fair) (le-leb b 4 w.few_fairs)),
           (
-            true_need _ _ (le-leb (suc (a + b) * k + 2 * n) (length (body t)) (omega (arith, size))),
+            need_from _ _ (le-leb (suc (a + b) * k + 2 * n) (length (body t)) (omega (arith, size))),
             (
               clear_sets n k (suc (a + b)) 4 (body t) fine,
               (
                 ap (counts_check 0 (4 + suc (a + b) * k)) es ∙ counts_pass n 0 (4 + suc (a + b) * k) t.rows w.rising (omega (arith, w.few_moves)),
                 (
-                  true_need _ _ (eq-eqb (length (target_bytes n a b (body t))) (2 * last_of 0 (u16s (count_bytes n a b (body t)))) fill),
+                  need_from _ _ (eq-eqb (length (target_bytes n a b (body t))) (2 * last_of 0 (u16s (count_bytes n a b (body t)))) fill),
                   (
                     ap (rows_check n (4 + suc (a + b) * k + 2 * n)) moves ∙ rows_pass n (4 + suc (a + b) * k + 2 * n) t.rows w.rising,
-                    (true_need _ _ (ap not (ap none first ∙ w.some_start)), tt),
+                    (need_from _ _ (ap not (ap none first ∙ w.some_start)), tt),
                   ),
                 ),
               ),

@@ -1,10 +1,10 @@
-pub mod Turns
 pub mod Dealing
 pub mod Order
+mod Turns
+mod Near
 pub mod Codec
 pub mod Passed
 pub mod Inverse
-pub mod View
 pub mod Faithful
 pub mod Places
 pub mod Questions

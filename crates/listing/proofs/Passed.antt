@@ -7,12 +7,12 @@ use Rattle.stateset.specs.Sets.{unpack, none, set_of, clear}
 use Rattle.stateset.proofs.Flags.{length_unpack}
 use Rattle.listing.specs.Numbers.{u16s}
 use Rattle.listing.specs.Sets.{width, sets_of, past}
-use Rattle.listing.specs.Rows.{dealt, last_of}
+use Rattle.listing.specs.Rows.{dealt, last_of, Rises}
 use Rattle.listing.specs.Listed.{Sized, Climbs, Rising, Lawful}
 use Rattle.listing.specs.Check.{sets_check, row_check, rows_check}
 use Rattle.listing.specs.Read.{others, count_bytes, target_bytes, table_of, checks, body_check}
 use Rattle.listing.proofs.Codec.{clears, all_dealt}
-use Rattle.listing.proofs.Dealing.{length_u16s, Rises, rises_to, counts_rise, counts_few}
+use Rattle.listing.proofs.Dealing.{length_u16s, rises_to, counts_rise, counts_few}
 
 sets_clear : (n k m place : ℕ) (bs : List ℕ) → sets_check n k m place bs ≡ Ok tt → clears n k m bs ≡ true
 sets_clear n k zero place bs e = refl

@@ -1,11 +1,10 @@
 -- Where in the bytes a listed table's sets, counts and targets lie.
-use Rattle.std.proofs.Common.{◌≡◌, ℕ, zero, suc, ◌+◌, ◌-◌, ◌*◌, ◌<◌, ◌≤◌, false, List, [], ◌∷◌, length, get_or, take, drop, refl, ap, ◌∙◌, ap₂, suc-mul, arith}
-use Rattle.std.proofs.lemmas.List.{get_or-take, get_or-drop, get_or_past, drop-drop, length-take, length-take-le, length-drop}
+use Rattle.std.proofs.Common.{◌≡◌, ℕ, zero, suc, ◌+◌, ◌-◌, ◌*◌, ◌<◌, ◌≤◌, false, List, [], ◌∷◌, length, get_or, take, drop, ap, ◌∙◌, suc-mul, arith}
+use Rattle.std.proofs.lemmas.List.{get_or-take, get_or_past, drop-drop, length-take}
 use Rattle.stateset.specs.Sets.{unpack, set_of}
-use Rattle.listing.specs.Numbers.{u16s}
 use Rattle.listing.specs.Sets.{sets_of}
-use Rattle.listing.specs.Rows.{dealt, last_of}
-use Rattle.listing.proofs.Dealing.{Rises, rises_to}
+use Rattle.listing.specs.Rows.{dealt, last_of, Rises}
+use Rattle.listing.proofs.Dealing.{rises_to}
 
 -- Set j lies j widths on.
 pub set_at : (n k m j : ℕ) (bs : List ℕ) → j < m → get_or (sets_of n k m bs) j [] ≡ set_of n (take k (drop (j * k) bs))
@@ -22,16 +21,6 @@ flag_below n s bs h = get_or-take n (unpack bs) s false h
 pub flag_past : (n s : ℕ) (bs : List ℕ) → n ≤ s → get_or (set_of n bs) s false ≡ false
 flag_past n s bs h = get_or_past (take n (unpack bs)) s false (omega (arith, length-take n (unpack bs)))
 
--- Number i lies at byte 2 × i.
-pub u16_at : (bs : List ℕ) (i : ℕ) → 2 * i + 1 < length bs → get_or (u16s bs) i 0 ≡ get_or bs (2 * i) 0 + get_or bs (2 * i + 1) 0 * 256
-u16_at [] i h = absurd (omega arith)
-u16_at (x ∷ []) i h = absurd (omega arith)
-u16_at (x ∷ y ∷ bs) zero h = refl
-u16_at (x ∷ y ∷ bs) (suc i) h =
-    let e : suc (suc (2 * i)) ≡ 2 * suc i = omega arith in
-    let f : suc (suc (2 * i + 1)) ≡ 2 * suc i + 1 = omega arith in
-    u16_at bs i (omega arith) ∙ ap₂ (λ p q. get_or (x ∷ y ∷ bs) p 0 + get_or (x ∷ y ∷ bs) q 0 * 256) e f
-
 -- The moves of s begin where those of the state before end, and end at its own count.
 pub row_bounds : (last : ℕ) (cs : List ℕ) (s : ℕ) → Rises last cs → s < length cs → (last ≤ get_or (last ∷ cs) s 0) × (get_or (last ∷ cs) s 0 ≤ get_or cs s 0) × (get_or cs s 0 ≤ last_of last cs)
 row_bounds last [] s r h = absurd (omega arith)
@@ -46,18 +35,3 @@ row_at last (c ∷ cs) ts (suc s) (l, r) h =
     let e : (c - last) + (get_or (c ∷ cs) s 0 - c) ≡ get_or (c ∷ cs) s 0 - last = omega (arith, b.0) in
     row_at c cs (drop (c - last) ts) s r (omega arith)
     ∙ ap (take (get_or cs s 0 - get_or (c ∷ cs) s 0)) (drop-drop (get_or (c ∷ cs) s 0 - c) (c - last) ts ∙ ap (λ i. drop i ts) e)
-
-module _ (cs ts : List ℕ) (s : ℕ) (r : Rises 0 cs) (h : s < length cs) (full : last_of 0 cs ≡ length ts) where
-  -- How many moves s has, and which.
-  pub row_length : length (get_or (dealt 0 cs ts) s []) ≡ get_or cs s 0 - get_or (0 ∷ cs) s 0
-  row_length =
-      let b = row_bounds 0 cs s r h in
-      ap length (row_at 0 cs ts s r h) ∙ length-take-le _ (drop (get_or (0 ∷ cs) s 0 - 0) ts) (simp length-drop (omega (arith, b.1, b.2)))
-
-  pub row_target : (k : ℕ) → k < get_or cs s 0 - get_or (0 ∷ cs) s 0 → get_or (get_or (dealt 0 cs ts) s []) k 0 ≡ get_or ts (get_or (0 ∷ cs) s 0 + k) 0
-  row_target k l =
-      let e : get_or (0 ∷ cs) s 0 - 0 + k ≡ get_or (0 ∷ cs) s 0 + k = omega arith in
-      ap (λ row. get_or row k 0) (row_at 0 cs ts s r h)
-      ∙ get_or-take _ (drop (get_or (0 ∷ cs) s 0 - 0) ts) k 0 l
-      ∙ get_or-drop (get_or (0 ∷ cs) s 0 - 0) ts k 0
-      ∙ ap (λ i. get_or ts i 0) e

@@ -1,21 +1,22 @@
 -- What the parts of a section answer is what its table means.
-use Rattle.std.proofs.Common.{◌≡◌, ℕ, suc, ◌+◌, ◌-◌, ◌*◌, ◌<◌, ◌≤◌, true, false, List, [], ◌∷◌, length, get_or, take, drop, sym, ap, ◌∙◌, suc-mul, arith}
+use Rattle.std.proofs.Common.{◌≡◌, ℕ, suc, ◌+◌, ◌-◌, ◌*◌, ◌<◌, ◌≤◌, false, List, [], ◌∷◌, length, get_or, take, drop, sym, ap, ◌∙◌, subst, ap₂, suc-mul, add-one, arith}
 use Rattle.std.proofs.lemmas.Nat.{mul-le}
-use Rattle.std.proofs.lemmas.List.{get_or-take, get_or-drop, get_or_past, length-take-le}
+use Rattle.std.proofs.lemmas.List.{get_or-drop, get_or_past, take-map, drop-map}
 use Rattle.stateset.specs.Sets.{bit_at, unpack}
 use Rattle.stateset.proofs.Flags.{unpack_bit}
-use Rattle.listing.specs.declared.Parts.{Parts}
-use Rattle.listing.specs.Numbers.{u16s}
-use Rattle.listing.specs.Sets.{width, past}
-use Rattle.listing.specs.Rows.{last_of}
+use Rattle.listing.specs.declared.section.Parts.{Parts}
+use Rattle.listing.specs.Numbers.{numbers}
+use Rattle.listing.specs.Sets.{width}
+use Rattle.listing.specs.Rows.{dealt, last_of, Rises}
 use Rattle.listing.specs.Listed.{meaning_of, targets_of}
 use Rattle.listing.specs.Read.{others}
-use Rattle.listing.specs.Parts.{listed_in, sets_in, passes, counts_in, targets_in}
-use Rattle.listing.proofs.Passed.{Passed, atoms_counted, fairs_counted, length_past, counts_long, targets_long, length_dealt}
+use Rattle.listing.specs.Parts.{listed_in, sets_in}
+use Rattle.listing.proofs.Passed.{Passed, atoms_counted, fairs_counted, counts_long, targets_long, length_dealt}
+use Rattle.listing.proofs.Dealing.{length_numbers}
 use Rattle.listing.proofs.Faithful.{parts_passed}
-use Rattle.listing.proofs.Places.{set_at, flag_below, flag_past, row_bounds, row_length, row_target}
+use Rattle.listing.proofs.Places.{set_at, flag_below, flag_past, row_bounds, row_at}
 
-module _ (p : Parts) (ok : passes p ≡ true) where
+module _ (p : Parts) where
   abbrev n : ℕ
   n = p.states
 
@@ -28,11 +29,15 @@ module _ (p : Parts) (ok : passes p ≡ true) where
   abbrev rest : List ℕ
   rest = p.body.now
 
+  -- The counts and the targets, as numbers.
   abbrev cs : List ℕ
-  cs = u16s (counts_in p)
+  cs = numbers p.counts.now
+
+  abbrev ts : List ℕ
+  ts = numbers p.targets.now
 
   passed : Passed n a b rest
-  passed = parts_passed p ok
+  passed = parts_passed p
 
   pub few_states : n ≤ 1024
   few_states = passed.few_states
@@ -63,15 +68,7 @@ module _ (p : Parts) (ok : passes p ≡ true) where
   pub set_past : (j s : ℕ) → j < suc (a + b) → n ≤ s → false ≡ get_or (get_or (sets_in p) j []) s false
   set_past j s h l = sym (ap (λ flags. get_or flags s false) (set_at n (width n) (suc (a + b)) j rest h) ∙ flag_past n s (take (width n) (drop (j * width n) rest)) l)
 
-  -- The atoms follow the start set, and the fairness sets the atoms.
-  pub atom_is : (j s : ℕ) → j < a → get_or (get_or (sets_in p) (1 + j) []) s false ≡ (meaning_of (listed_in p)).atom j s
-  atom_is j s h =
-      let e : 1 + j ≡ suc j = omega arith in
-      ap (λ flags. get_or flags s false) (ap (λ i. get_or (sets_in p) i []) e ∙ sym (get_or-take a (others n a b rest) j [] h))
-
-  pub atom_none : (j s : ℕ) → a ≤ j → false ≡ (meaning_of (listed_in p)).atom j s
-  atom_none j s h = sym (ap (λ flags. get_or flags s false) (get_or_past (take a (others n a b rest)) j [] (omega (arith, atoms_are))))
-
+  -- The fairness sets follow the start set and the atoms.
   pub fair_is : (i s : ℕ) → get_or (get_or (sets_in p) (1 + a + i) []) s false ≡ (meaning_of (listed_in p)).fair i s
   fair_is i s =
       let e : 1 + a + i ≡ suc (a + i) = omega arith in
@@ -81,30 +78,42 @@ module _ (p : Parts) (ok : passes p ≡ true) where
   fair_none i s h = sym (ap (λ flags. get_or flags s false) (get_or_past (drop a (others n a b rest)) i [] (omega (arith, fairs_are))))
 
   -- The counts of moves: one a state, rising, the last of them the count of targets.
-  pub count_room : (s : ℕ) → s < n → 2 * s + 1 < length (counts_in p)
-  count_room s h =
-      let left = length_past (width n) (suc (a + b)) rest in
-      omega (arith, length-take-le (2 * n) (past (width n) (suc (a + b)) rest) (omega (arith, passed.room)))
+  rise : Rises 0 cs
+  rise = subst (Rises 0) (sym p.counted) passed.rise
 
-  counted : (s : ℕ) → s < n → s < length cs
-  counted s h = omega (arith, counts_long n a b rest passed)
+  many : length cs ≡ n
+  many = ap length p.counted ∙ counts_long n a b rest passed
 
-  pub row_rises : (s : ℕ) → s < n → get_or (0 ∷ cs) s 0 ≤ get_or cs s 0
-  row_rises s h = (row_bounds 0 cs s passed.rise (counted s h)).1
+  full : last_of 0 cs ≡ length ts
+  full = ap (last_of 0) p.counted ∙ sym (targets_long n a b rest passed) ∙ sym (ap length p.targeted)
+
+  rows_are : dealt 0 cs ts ≡ (listed_in p).rows
+  rows_are = ap₂ (dealt 0) p.counted p.targeted
+
+  pub count_room : (s : ℕ) → s < n → s < length p.counts.now
+  count_room s h = omega (arith, many, length_numbers p.counts.now)
+
+  -- How many moves the states below s have.
+  abbrev pub before : ℕ → ℕ
+  before s = get_or (0 ∷ cs) s 0
 
   -- Where a row of targets lies, and that it is the row of the table.
-  pub row_room : (s : ℕ) → s < n → 2 * get_or cs s 0 ≤ length (targets_in p)
-  row_room s h = omega (arith, (row_bounds 0 cs s passed.rise (counted s h)).2, passed.fill)
+  pub row_room : (s : ℕ) → s < n → (before s ≤ before (s + 1)) × (before (s + 1) ≤ length p.targets.now)
+  row_room s h =
+      let bounds = row_bounds 0 cs s rise (omega (arith, many)) in
+      let e : before (s + 1) ≡ get_or cs s 0 = ap before (add-one s) in
+      (omega (arith, bounds.1, e), omega (arith, bounds.2, e, full, length_numbers p.targets.now))
 
-  full : last_of 0 cs ≡ length (u16s (targets_in p))
-  full = sym (targets_long n a b rest passed)
-
-  pub row_count : (s : ℕ) → s < n → get_or cs s 0 - get_or (0 ∷ cs) s 0 ≡ length (targets_of (listed_in p) s)
-  row_count s h = sym (row_length cs (u16s (targets_in p)) s passed.rise (counted s h) full)
-
-  pub row_goals : (s : ℕ) → s < n → (k : ℕ) → k < length (targets_of (listed_in p) s) → get_or (u16s (targets_in p)) (get_or (0 ∷ cs) s 0 + k) 0 ≡ get_or (targets_of (listed_in p) s) k 0
-  row_goals s h k l = sym (row_target cs (u16s (targets_in p)) s passed.rise (counted s h) full k (omega (arith, row_count s h)))
+  pub row_is : (s : ℕ) → s < n → numbers (take (before (s + 1) - before s) (drop (before s) p.targets.now)) ≡ targets_of (listed_in p) s
+  row_is s h =
+      let e : before (s + 1) ≡ get_or cs s 0 = ap before (add-one s) in
+      let z : before s ≡ before s - 0 = omega arith in
+      sym (take-map _ (before (s + 1) - before s) (drop (before s) p.targets.now))
+      ∙ ap (take (before (s + 1) - before s)) (sym (drop-map _ (before s) p.targets.now))
+      ∙ ap₂ (λ end from. take (end - before s) (drop from ts)) e z
+      ∙ sym (row_at 0 cs ts s rise (omega (arith, many)))
+      ∙ ap (λ rows. get_or rows s []) rows_are
 
   -- What is no state has no moves.
   pub row_none : (s : ℕ) → n ≤ s → [] ≡ targets_of (listed_in p) s
-  row_none s h = sym (get_or_past _ s [] (omega (arith, length_dealt 0 cs (u16s (targets_in p)), counts_long n a b rest passed)))
+  row_none s h = sym (ap (λ rows. get_or rows s []) (sym rows_are) ∙ get_or_past _ s [] (omega (arith, length_dealt 0 cs ts, many)))

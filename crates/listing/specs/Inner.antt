@@ -1,22 +1,20 @@
 -- What the functions of the reader tell each other; no promise of the crate speaks of it.
-use Rattle.std.specs.Prelude.{◌≡◌, ℕ, suc, ◌+◌, ◌-◌, ◌*◌, ◌≤◌, List, [], ◌∷◌}
-use Rattle.listing.specs.declared.Parts.{Parts}
+use Rattle.std.specs.Prelude.{ℕ, suc, ◌+◌, ◌*◌, ◌≤◌, List, [], ◌∷◌, length, ◌==◌}
+use Rattle.fault.specs.declared.Cause.TheVariants.{Targets}
+use Rattle.fault.specs.Faults.{fault}
+use Rattle.fault.specs.Checks.{Checked, need}
+use Rattle.listing.specs.Numbers.{u16s}
 use Rattle.listing.specs.Sets.{width}
-use Rattle.listing.specs.Read.{count_bytes, target_bytes}
+use Rattle.listing.specs.Rows.{dealt, last_of}
+use Rattle.listing.specs.Check.{counts_check, rows_check}
 
--- The parts of a body with these counts.
-pub record Cut (n a b : ℕ) (rest : List ℕ) (p : Parts) : Type 0 where
-  pub states : p.states ≡ n
-  pub atoms : p.atoms ≡ a
-  pub fairs : p.fairness_sets ≡ b
-  pub body : p.body.now ≡ rest
-  pub counts : p.counts.now ≡ count_bytes n a b rest
-  pub targets : p.targets.now ≡ target_bytes n a b rest
-
--- Counts that rise from `last`, of which what they count, two bytes each, fits into `long`.
-abbrev pub Fills : ℕ → List ℕ → ℕ → Type 0
-Fills last [] long = Unit {0}
-Fills last (c ∷ cs) long = (last ≤ c) × (2 * (c - last) ≤ long) × Fills c cs (long - 2 * (c - last))
+-- The checks of the moves, of counts that are numbers already.
+abbrev pub number_checks : (n place : ℕ) (counts targets : List ℕ) → List Checked
+number_checks n place counts targets =
+    counts_check 0 place counts
+    ∷ need (length targets == 2 * last_of 0 counts) (fault Targets 0)
+    ∷ rows_check n (place + 2 * n) (dealt 0 counts (u16s targets))
+    ∷ []
 
 -- Counts within their ranges, and room for what they announce.
 pub record Sizes (n a b long : ℕ) : Type 0 where

@@ -3,7 +3,7 @@ use Rattle.std.specs.Prelude.{ℕ, suc, ◌+◌, ◌*◌, Bool, cond, not, List,
 use Rattle.fault.specs.declared.Cause.TheVariants.{TableCounts, Targets, NoStart}
 use Rattle.fault.specs.declared.Fault.{Fault}
 use Rattle.fault.specs.Faults.{fault}
-use Rattle.fault.specs.Checks.{Checked, between, need, first_of, given}
+use Rattle.fault.specs.Checks.{Checked, between, need, first_of, is_ok, given}
 use Rattle.stateset.specs.Sets.{none, set_of}
 use Rattle.listing.specs.Numbers.{u16s}
 use Rattle.listing.specs.Sets.{width, sets_of, past}
@@ -60,6 +60,9 @@ checks n a b rest =
 
 abbrev pub body_check : (n a b : ℕ) → List ℕ → Checked
 body_check n a b rest = first_of (checks n a b rest)
+
+unfoldable pub passes : (n a b : ℕ) → List ℕ → Bool
+passes n a b rest = is_ok (body_check n a b rest)
 
 -- The table, where every check passes.
 abbrev pub read_body : (n a b : ℕ) → List ℕ → Result Listed Fault

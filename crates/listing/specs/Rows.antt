@@ -1,5 +1,5 @@
 -- Rows of targets as cumulative counts and one list.
-use Rattle.std.specs.Prelude.{ℕ, ◌+◌, ◌-◌, List, [], ◌∷◌, ◌++◌, length, take, drop}
+use Rattle.std.specs.Prelude.{ℕ, ◌+◌, ◌-◌, ◌<◌, List, [], ◌∷◌, ◌++◌, length, take, drop}
 
 -- For each row the count of targets up to and with it, `last` before the first; and all targets, row by row.
 abbrev pub counts : ℕ → List (List ℕ) → List ℕ
@@ -19,3 +19,8 @@ dealt last (c ∷ cs) targets = take (c - last) targets ∷ dealt c cs (drop (c 
 abbrev pub last_of : ℕ → List ℕ → ℕ
 last_of last [] = last
 last_of last (c ∷ cs) = last_of c cs
+
+-- Counts that rise strictly from above `last`.
+abbrev pub Rises : ℕ → List ℕ → Type 0
+Rises last [] = Unit {0}
+Rises last (c ∷ cs) = (last < c) × Rises c cs

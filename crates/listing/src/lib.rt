@@ -1,202 +1,137 @@
 // The layout of a listed table: reading and checking its section.
 #![tactic(auto)]
 
-ghost use Rattle.std.specs.Prelude.{◌≡◌, ◌+◌, ◌*◌, ◌≤◌, length, IfOk, IfErr, OnOk};
+ghost use Rattle.std.specs.Prelude.{◌≡◌, ◌+◌, ◌*◌, ◌/◌, ◌<◌, ◌≤◌, length, IfOk, IfErr, OnOk};
 ghost use Rattle.stateset.specs.Sets.{FlagsAreBits};
-ghost use Rattle.listing.specs.Numbers.{u16s};
-ghost use Rattle.listing.specs.Rows.{dealt, last_of};
-ghost use Rattle.fault.specs.Checks.{first_of, passed};
+ghost use Rattle.fault.specs.Checks.{first_of, mapped, passed};
+ghost use Rattle.listing.specs.Numbers.{numbers};
+ghost use Rattle.listing.specs.Rows.{dealt, last_of, Rises};
 ghost use Rattle.listing.specs.Check.{sets_check, counts_check, row_check, rows_check};
-ghost use Rattle.listing.specs.Read.{read_of, size_checks, move_checks, body_check};
-ghost use Rattle.listing.specs.Parts.{viewed, Formed};
-ghost use Rattle.listing.specs.Inner.{Cut, Fills, Sizes};
+ghost use Rattle.listing.specs.Read.{size_checks, read_body as body_read, read_of};
+ghost use Rattle.listing.specs.Parts.{listed_in};
+ghost use Rattle.listing.specs.Inner.{number_checks, Sizes};
 ghost use Rattle.listing.specs.Layout.{AcceptedIsLayout, LayoutIsAccepted};
 
-use fault::{Cause, Fault};
+pub use crate::section::Parts;
+use crate::section::number;
+use fault::{Cause, Fault, need};
 
-// A section that passed its checks, cut into its parts.
+mod section;
+
+// The counts that lead a section.
 #[derive(Clone, Copy)]
-pub struct Parts<'a> {
-    pub states: usize,
-    pub atoms: usize,
-    pub fairness_sets: usize,
-    // all that follows the four leading bytes: first the start set, the atoms and the fairness sets
-    pub body: &'a [u8],
-    // for each state the count of moves up to and with it, 16 bits each
-    pub counts: &'a [u8],
-    // the targets, 16 bits each
-    pub targets: &'a [u8],
+struct Counts {
+    states: usize,
+    atoms: usize,
+    fairness_sets: usize,
 }
 
-// m sets of k bytes each have no bit at n or above.
-fn check_sets(sets: &[u8], n: usize, k: usize, m: usize, from: usize) -> Result<(), Fault>
-    requires { (m * k ≤ length sets.now) × (from + length sets.now ≤ 65536) }
-    ensures value { result ≡ sets_check n k m from sets.now }
-    ensures place { IfErr result (λ e. e.place ≤ 65536) }
+// Each set of k bytes has no bit at n or above; the sets begin at 4.
+fn check_sets(sets: &[u8], n: usize, k: usize) -> Result<(), Fault>
+    requires { (0 < k) × (length sets.now ≤ 2688) }
+    ensures { result ≡ sets_check n k (length sets.now / k) 4 sets.now }
 {
-    let mut left = sets;
-    let mut place = from;
-    let mut todo = m;
-    while todo > 0 {
-        if !stateset::is_below(&left[0..k], n) {
-            return Err(Fault {
-                cause: Cause::StrayBit,
-                place,
-            });
-        }
-        left = &left[k..];
-        place += k;
-        todo -= 1;
+    for (j, set) in sets.chunks_exact(k).enumerate() {
+        need(stateset::is_below(set, n), Cause::StrayBit.at(4 + j * k))?;
     }
     Ok(())
 }
 
 // The counts of moves rise strictly and stay within their limit; the last of them.
-fn check_counts(counts: &[u8], from: usize) -> Result<u16, Fault>
-    requires { from + length counts.now ≤ 65536 }
-    ensures value { passed result ≡ counts_check 0 from (u16s counts.now) }
-    ensures last { IfOk result (λ c. c ≡ last_of 0 (u16s counts.now)) }
-    ensures place { IfErr result (λ e. e.place ≤ 65536) }
+fn check_counts(counts: &[[u8; 2]], from: usize) -> Result<usize, Fault>
+    requires { from + 2 * length counts.now ≤ 65536 }
+    ensures value { passed result ≡ counts_check 0 from (numbers counts.now) }
+    ensures last { IfOk result (λ c. (c ≡ last_of 0 (numbers counts.now)) × (c ≤ 16384)) }
 {
-    let mut bytes = counts;
-    let mut last = 0u16;
-    let mut place = from;
-    while let [low, high, rest @ ..] = bytes {
-        let count = u16::from_le_bytes([*low, *high]);
-        if count <= last || count > 16384 {
-            return Err(Fault {
-                cause: Cause::MoveCounts,
-                place,
-            });
-        }
+    let mut last = 0;
+    for (s, count) in counts.iter().enumerate() {
+        let count = number(*count);
+        need(
+            last < count && count <= 16384,
+            Cause::MoveCounts.at(from + 2 * s),
+        )?;
         last = count;
-        place += 2;
-        bytes = rest;
     }
     Ok(last)
 }
 
-// The targets of one state rise strictly and are states.
-fn check_row(row: &[u8], n: usize, from: usize) -> Result<(), Fault>
-    requires { from + length row.now ≤ 65536 }
-    ensures value { result ≡ row_check n 0 from (u16s row.now) }
-    ensures place { IfErr result (λ e. e.place ≤ 65536) }
+// The targets of one state rise strictly and are states. It is like `check_counts`: one function for both would have to take a
+// count and a target for one above itself.
+fn check_row(row: &[[u8; 2]], n: usize, from: usize) -> Result<(), Fault>
+    requires { from + 2 * length row.now ≤ 65536 }
+    ensures { result ≡ row_check n 0 from (numbers row.now) }
 {
-    let mut bytes = row;
-    let mut lowest = 0usize;
-    let mut place = from;
-    while let [low, high, rest @ ..] = bytes {
-        let target = u16::from_le_bytes([*low, *high]) as usize;
-        if target < lowest || target >= n {
-            return Err(Fault {
-                cause: Cause::Targets,
-                place,
-            });
-        }
+    let mut lowest = 0;
+    for (k, target) in row.iter().enumerate() {
+        let target = number(*target);
+        need(
+            lowest <= target && target < n,
+            Cause::Targets.at(from + 2 * k),
+        )?;
         lowest = target + 1;
-        place += 2;
-        bytes = rest;
     }
     Ok(())
 }
 
 // The targets of every state, whose counts are known to rise and to fill the targets.
-fn check_rows(counts: &[u8], targets: &[u8], n: usize, from: usize) -> Result<(), Fault>
-    requires { (from + length targets.now ≤ 65536) × (Fills 0 (u16s counts.now) (length targets.now)) }
-    ensures value { result ≡ rows_check n from (dealt 0 (u16s counts.now) (u16s targets.now)) }
-    ensures place { IfErr result (λ e. e.place ≤ 65536) }
+fn check_rows(counts: &[[u8; 2]], targets: &[[u8; 2]], n: usize, from: usize) -> Result<(), Fault>
+    requires room { from + 2 * length targets.now ≤ 65536 }
+    requires rise { Rises 0 (numbers counts.now) }
+    requires fill { last_of 0 (numbers counts.now) ≡ length targets.now }
+    ensures { result ≡ rows_check n from (dealt 0 (numbers counts.now) (numbers targets.now)) }
 {
-    let mut ends = counts;
-    let mut left = targets;
-    let mut place = from;
-    let mut last = 0usize;
-    while let [low, high, rest @ ..] = ends {
-        let end = u16::from_le_bytes([*low, *high]) as usize;
-        let size = 2 * (end - last);
-        check_row(&left[0..size], n, place)?;
-        left = &left[size..];
-        place += size;
-        last = end;
-        ends = rest;
+    let mut first = 0;
+    for end in counts {
+        let end = number(*end);
+        check_row(&targets[first..end], n, from + 2 * first)?;
+        first = end;
     }
     Ok(())
 }
 
 // The counts of moves and the targets.
-fn check_moves(counts: &[u8], targets: &[u8], n: usize, from: usize) -> Result<(), Fault>
-    requires { (from + 2 * n ≤ 32768) × (length counts.now ≡ 2 * n) }
-    ensures value { result ≡ first_of (move_checks n from counts.now targets.now) }
-    ensures place { IfErr result (λ e. e.place ≤ 65536) }
+#[tactic(auto, using(crate::proofs::Order::numbers_are))]
+fn check_moves(counts: &[[u8; 2]], targets: &[u8], n: usize, from: usize) -> Result<(), Fault>
+    requires { (from + 2 * n ≤ 32768) × (length counts.now ≡ n) }
+    ensures { result ≡ first_of (number_checks n from (numbers counts.now) targets.now) }
 {
     let last = check_counts(counts, from)?;
-    if targets.len() != 2 * last as usize {
-        return Err(Fault {
-            cause: Cause::Targets,
-            place: 0,
-        });
-    }
+    need(targets.len() == 2 * last, Cause::Targets.at(0))?;
+    let (targets, _) = targets.as_chunks();
     check_rows(counts, targets, n, from + 2 * n)
 }
 
 // The counts that lead a section are in their ranges, and as many bytes follow as they announce.
-fn check_sizes(n: usize, a: usize, b: usize, long: usize) -> Result<(), Fault>
-    ensures value { result ≡ first_of (size_checks n a b long) }
-    ensures sizes { OnOk result (Sizes n a b long) }
-    ensures place { IfErr result (λ e. e.place ≤ 65536) }
+fn check_sizes(n: Counts, long: usize) -> Result<(), Fault>
+    ensures value { result ≡ first_of (size_checks n.states n.atoms n.fairness_sets long) }
+    ensures sizes { OnOk result (Sizes n.states n.atoms n.fairness_sets long) }
 {
-    if n < 1 || n > 1024 {
-        return Err(Fault {
-            cause: Cause::TableCounts,
-            place: 0,
-        });
-    }
-    if a > 16 {
-        return Err(Fault {
-            cause: Cause::TableCounts,
-            place: 2,
-        });
-    }
-    if b < 1 || b > 4 {
-        return Err(Fault {
-            cause: Cause::TableCounts,
-            place: 3,
-        });
-    }
-    if long < (a + b + 1) * ((n + 7) / 8) + 2 * n {
-        return Err(Fault {
-            cause: Cause::TableCounts,
-            place: 0,
-        });
-    }
-    Ok(())
+    need((1..=1024).contains(&n.states), Cause::TableCounts.at(0))?;
+    need(n.atoms <= 16, Cause::TableCounts.at(2))?;
+    need((1..=4).contains(&n.fairness_sets), Cause::TableCounts.at(3))?;
+    let sets = n.atoms + n.fairness_sets + 1;
+    let announced = sets * ((n.states + 7) / 8) + 2 * n.states;
+    need(announced <= long, Cause::TableCounts.at(0))
 }
 
 // What follows the four leading bytes, with the counts that these gave.
-fn read_body(rest: &[u8], n: usize, a: usize, b: usize) -> Result<Parts<'_>, Fault>
-    requires { (n ≤ 65535) × ((a ≤ 255) × (b ≤ 255)) }
-    ensures value { passed result ≡ body_check n a b rest.now }
-    ensures parts { IfOk result (λ p. Cut n a b rest.now p) }
-    ensures place { IfErr result (λ e. e.place ≤ 65536) }
+fn read_body(rest: &[u8], n: Counts) -> Result<Parts<'_>, Fault>
+    ensures { mapped listed_in result ≡ body_read n.states n.atoms n.fairness_sets rest.now }
 {
-    check_sizes(n, a, b, rest.len())?;
-    let k = (n + 7) / 8;
-    let sets = a + b + 1;
-    let counts_at = sets * k;
-    let targets_at = counts_at + 2 * n;
-    check_sets(&rest[0..counts_at], n, k, sets, 4)?;
-    let counts = &rest[counts_at..targets_at];
-    let targets = &rest[targets_at..];
-    check_moves(counts, targets, n, 4 + counts_at)?;
-    if stateset::is_empty(&rest[0..k], n) {
-        return Err(Fault {
-            cause: Cause::NoStart,
-            place: 4,
-        });
-    }
+    check_sizes(n, rest.len())?;
+    let width = (n.states + 7) / 8;
+    let counts_at = (n.atoms + n.fairness_sets + 1) * width;
+    let targets_at = counts_at + 2 * n.states;
+    check_sets(&rest[..counts_at], n.states, width)?;
+    let (counts, _) = rest[counts_at..targets_at].as_chunks();
+    let (targets, _) = rest[targets_at..].as_chunks();
+    check_moves(counts, &rest[targets_at..], n.states, 4 + counts_at)?;
+    let started = !stateset::is_empty(&rest[..width], n.states);
+    need(started, Cause::NoStart.at(4))?;
     Ok(Parts {
-        states: n,
-        atoms: a,
-        fairness_sets: b,
+        states: n.states,
+        atoms: n.atoms,
+        fairness_sets: n.fairness_sets,
         body: rest,
         counts,
         targets,
@@ -205,20 +140,21 @@ fn read_body(rest: &[u8], n: usize, a: usize, b: usize) -> Result<Parts<'_>, Fau
 
 // The parts of a section, or its first fault; places are offsets in the section. What is accepted is the layout of
 // exactly the table that was read, every lawful table's layout is accepted, and the flags of a set are its bits.
+#[tactic(auto, using(crate::proofs::Inverse::layout_is_accepted, stateset::proofs::Flags::unpack_bit))]
 pub fn read(section: &[u8]) -> Result<Parts<'_>, Fault>
-    ensures value { viewed result ≡ read_of section.now }
-    ensures formed { IfOk result Formed }
+    ensures value { mapped listed_in result ≡ read_of section.now }
     ensures place { IfErr result (λ e. e.place ≤ 65536) }
     ensures accepted { AcceptedIsLayout }
     ensures lawful { LayoutIsAccepted }
     ensures flags { FlagsAreBits }
 {
-    let [low, high, a, b, rest @ ..] = section else {
-        return Err(Fault {
-            cause: Cause::TableCounts,
-            place: 0,
-        });
+    let [low, high, atoms, fairness_sets, rest @ ..] = section else {
+        return Err(Cause::TableCounts.at(0));
     };
-    let n = u16::from_le_bytes([*low, *high]) as usize;
-    read_body(rest, n, *a as usize, *b as usize)
+    let counts = Counts {
+        states: number([*low, *high]),
+        atoms: usize::from(*atoms),
+        fairness_sets: usize::from(*fairness_sets),
+    };
+    read_body(rest, counts)
 }

@@ -1,48 +1,25 @@
 -- The parts of a section, as the code cuts them.
-use Rattle.std.proofs.Common.{◌≡◌, ℕ, suc, ◌+◌, ◌-◌, ◌*◌, List, length, get_or, take, drop, sym, ap, ◌∙◌, arith}
-use Rattle.std.proofs.lemmas.List.{take_rest, drop-drop}
-use Rattle.circuit.specs.Circuit.{gates_of, names}
-use Rattle.circuit.specs.Read.{Counts, name_bytes, circuit_of}
-use Rattle.circuit.proofs.Codec.{names_again, names_long, gate_bytes_long, gates_long, next_long}
-use Rattle.register.specs.declared.parts.Parts.{Parts}
-use Rattle.register.specs.Parts.{circuit_in}
-use Rattle.register.specs.Inner.{Cut, Sizes}
+use Rattle.std.proofs.Common.{◌≡◌, ℕ, ◌-◌, ◌*◌, ◌/◌, List, map, length, get_or, take, drop, refl, add-one, add-zero}
+use Rattle.std.specs.Simd.{first_chunks}
+use Rattle.std.proofs.lemmas.List.{take_rest, drop-drop, get_or-drop}
+use Rattle.stateset.proofs.Pairs.{in_pairs}
+use Rattle.circuit.specs.Circuit.{gates_of}
+use Rattle.circuit.specs.Read.{Counts, circuit_of}
+use Rattle.register.specs.Parts.{gate_in}
 
-module _ (n : Counts) (rest : List ℕ) (sizes : Sizes n (length rest)) where
-  -- The value numbers, as a part of the section.
-  abbrev pub bytes : List ℕ
-  bytes = take (length rest - 2 * n.gates) (drop (2 * n.gates) rest)
+-- The gates in pairs of bytes.
+gates_cut : (bytes : List ℕ) → map gate_in (first_chunks 2 (length bytes / 2) bytes) ≡ gates_of bytes
+gates_cut bytes = in_pairs gate_in gates_of refl (λ x. refl) (λ x y xs. refl) bytes
 
-  whole : bytes ≡ name_bytes n rest
-  whole = take_rest rest (2 * n.gates)
+module _ (n : Counts) (rest : List ℕ) where
+  abbrev pub gates : List ℕ
+  gates = take (2 * n.gates) rest
 
-  -- Where the atoms and the fairness sets begin among them.
-  abbrev pub atoms_at : ℕ
-  atoms_at = n.registers + 1
+  abbrev pub sets : List ℕ
+  sets = drop n.registers (drop (2 * n.gates) rest)
 
-  abbrev pub fairs_at : ℕ
-  fairs_at = atoms_at + n.atoms
+  abbrev pub tail : List ℕ
+  tail = take (length sets - 1) (drop 1 sets)
 
-  pub circuit_cut : record { inputs = n.inputs; gates = gates_of (take (2 * n.gates - 0) rest); next = take (n.registers - 0) bytes; start = get_or bytes n.registers 0; atoms = take (fairs_at - atoms_at) (drop atoms_at bytes); fairs = take (length bytes - fairs_at) (drop fairs_at bytes) } ≡ circuit_of n rest
-  circuit_cut =
-      let z : 2 * n.gates - 0 ≡ 2 * n.gates = omega arith in
-      let y : n.registers - 0 ≡ n.registers = omega arith in
-      let x : fairs_at - atoms_at ≡ n.atoms = omega arith in
-      let w : atoms_at ≡ suc n.registers = omega arith in
-      let v : suc n.registers + n.atoms ≡ fairs_at = omega arith in
-      let fairs_are = take_rest bytes fairs_at ∙ ap (drop fairs_at) whole ∙ sym (drop-drop n.atoms (suc n.registers) (name_bytes n rest) ∙ ap (λ i. drop i (name_bytes n rest)) v) in
-      λ i. record { inputs = n.inputs; gates = gates_of (take (z i) rest); next = take (y i) (whole i); start = get_or (whole i) n.registers 0; atoms = take (x i) (drop (w i) (whole i)); fairs = fairs_are i }
-
-  pub cut_parts : (p : Parts) → p.gates.now ≡ take (2 * n.gates - 0) rest → circuit_in p ≡ circuit_of n rest → Cut p (name_bytes n rest)
-  cut_parts p gates is =
-      let z : 2 * n.gates - 0 ≡ 2 * n.gates = omega arith in
-      let gate_bytes_are = ap length (gates ∙ ap (λ i. take i rest) z) ∙ gate_bytes_long n rest sizes.exact in
-      let gates_are = ap (λ c. length c.gates) is ∙ gates_long n rest sizes.exact in
-      let next_are = ap (λ c. length c.next) is ∙ next_long n rest sizes.exact in
-      let long = names_long n rest sizes.exact in
-      record {
-        small = record { few_registers = omega (arith, next_are, sizes.few_registers); few_inputs = omega (arith, ap (λ c. c.inputs) is, sizes.few_inputs); few_gates = omega (arith, gate_bytes_are, sizes.few_gates) };
-        even = omega (arith, gate_bytes_are, gates_are);
-        few_names = omega (arith, long, sizes.few_registers, sizes.few_atoms, sizes.few_fairs);
-        named = sym (ap names is ∙ names_again n rest (omega (arith, long)));
-      }
+  pub circuit_cut : record { inputs = n.inputs; gates = map gate_in (first_chunks 2 (length gates / 2) gates); next = take n.registers (drop (2 * n.gates) rest); start = get_or sets 0 0; atoms = take n.atoms tail; fairs = drop n.atoms tail } ≡ circuit_of n rest
+  circuit_cut = rw (gates_cut, take_rest sets 1, drop-drop 1 n.registers, get_or-drop n.registers, add-zero n.registers, add-one n.registers)

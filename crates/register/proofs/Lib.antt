@@ -1,4 +1,4 @@
 mod Turns
-mod Small
+mod GatesCheck
 mod Cutting
-mod View
+mod Laws

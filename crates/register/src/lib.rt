@@ -1,11 +1,11 @@
 // Register tables: a table whose states are the contents of registers, in the bytes of a section.
 #![tactic(auto)]
 
-ghost use Rattle.std.specs.Prelude.{◌≡◌, ◌^◌, ◌<◌, ◌≤◌, true, false, length, IfSome, Err, slice_index};
-ghost use Rattle.fault.specs.Checks.{or_else, fault_in};
+ghost use Rattle.std.specs.Prelude.{◌≡◌, ◌≤◌, true, Err, IfSome, IfErr};
+ghost use Rattle.fault.specs.Checks.{mapped, or_else, fault_in};
 ghost use Rattle.table.specs.Same.{SameMeaning};
 ghost use Rattle.table.specs.OneState.{one_state};
-ghost use Rattle.circuit.specs.Table.{size as state_count, holds as holding, meaning_of, targets_of, usable, one_circuit};
+ghost use Rattle.circuit.specs.Table.{meaning_of, targets_of, usable, one_circuit};
 ghost use Rattle.circuit.specs.Read.{read_of};
 ghost use Rattle.circuit.specs.Law.{AcceptedIsLayout, LayoutIsAccepted, ValuesAre};
 ghost use Rattle.circuit.proofs.Faithful.{circuit_faithful};
@@ -13,7 +13,6 @@ ghost use Rattle.register.specs.Parts.{circuit_in};
 
 use crate::parts::Parts;
 use crate::read::read;
-use crate::values::{holds, power_of_two, target};
 use fault::Fault;
 use table::Table;
 
@@ -24,20 +23,18 @@ mod values;
 // A table for any bytes: the circuit that a section lays out, or the one-state table where the section is refused.
 #[derive(Clone, Copy)]
 pub struct Register<'a> {
-    parts: Parts<'a>,
-    fault: Option<Fault>,
-    ghost bounded: { usable (circuit_in parts) ≡ true },
+    // what the section lays out, or why it was refused
+    read: Result<Parts<'a>, Fault>,
+    ghost bounded: { usable (or_else one_circuit (mapped circuit_in read)) ≡ true },
 }
 
 // The circuit without registers: one state.
 fn one_state() -> Parts<'static>
-    ensures bounded { usable (circuit_in result) ≡ true }
-    ensures circuit { circuit_in result ≡ one_circuit }
-    ensures same { SameMeaning (meaning_of (circuit_in result)) one_state }
+    ensures { circuit_in result ≡ one_circuit }
 {
     Parts {
         inputs: 0,
-        gates: &[0, 0],
+        gates: &[[0, 0]],
         next: &[],
         start: 1,
         atoms: &[],
@@ -46,122 +43,95 @@ fn one_state() -> Parts<'static>
 }
 
 impl<'a> Register<'a> {
+    ghost use Rattle.register.specs.Register.{circuit_held, refusal};
+
     // The table of a section. What is accepted is the layout of exactly the circuit that was read, every lawful circuit's
     // layout is accepted, and its values are those of its registers, inputs and gates.
+    #[tactic(auto, using(crate::proofs::Laws::laws))]
     pub fn of(section: &'a [u8]) -> Register<'a>
-        ensures circuit { circuit_in result.parts ≡ or_else one_circuit (read_of section.now) }
-        ensures fault { result.fault ≡ fault_in (read_of section.now) }
-        ensures place { IfSome result.fault (λ e. e.place ≤ 65536) }
-        ensures refused { (e : Fault) → read_of section.now ≡ Err e → SameMeaning (meaning_of (circuit_in result.parts)) one_state }
+        ensures circuit { circuit_held result ≡ or_else one_circuit (read_of section.now) }
+        ensures fault { refusal result ≡ fault_in (read_of section.now) }
+        ensures place { IfSome (refusal result) (λ e. e.place ≤ 65536) }
+        ensures refused { (e : Fault) → read_of section.now ≡ Err e → SameMeaning (meaning_of (circuit_held result)) one_state }
         ensures accepted { AcceptedIsLayout }
         ensures lawful { LayoutIsAccepted }
         ensures values { ValuesAre }
     {
-        match read(section) {
-            Ok(parts) => Register { parts, fault: None },
-            Err(fault) => Register {
-                parts: one_state(),
-                fault: Some(fault),
-            },
+        Register {
+            read: read(section),
         }
+    }
+
+    // The table of a section that lays out a circuit, or the section's first fault; the place is an offset in the section.
+    #[tactic(auto, using(crate::proofs::Laws::laws))]
+    pub fn read(section: &'a [u8]) -> Result<Register<'a>, Fault>
+        ensures circuit { mapped circuit_held result ≡ read_of section.now }
+        ensures place { IfErr result (λ e. e.place ≤ 65536) }
+        ensures accepted { AcceptedIsLayout }
+        ensures lawful { LayoutIsAccepted }
+        ensures values { ValuesAre }
+    {
+        let parts = read(section)?;
+        Ok(Register { read: Ok(parts) })
     }
 
     // Why the section was refused, if it was; the place is an offset in the section.
     pub fn fault(&self) -> Option<Fault>
-        ensures { result ≡ self.now.fault }
+        ensures { result ≡ refusal self.now }
     {
-        self.fault
+        self.read.err()
     }
 
-    // Whether s has value v, every input being false.
-    fn has_value(&self, v: u8, s: usize) -> bool
-        ensures { result ≡ holding (circuit_in self.now.parts) v s }
+    // The parts of the circuit that the table is.
+    fn parts(&self) -> Parts<'a>
+        ensures { circuit_in result ≡ circuit_held self.now }
     {
-        holds(&self.parts, v, s)
-    }
-
-    // Whether s has the value that entry j of a row of value numbers names; an entry that is not there holds nowhere.
-    fn in_set(&self, names: &[u8], j: usize, s: usize) -> bool
-        ensures { result ≡ holding (circuit_in self.now.parts) (slice_index names.now j) s }
-    {
-        if j >= names.len() {
-            return false;
+        match self.read {
+            Ok(parts) => parts,
+            Err(_) => one_state(),
         }
-        self.has_value(names[j], s)
-    }
-
-    // How many states there are.
-    fn size(&self) -> usize
-        ensures { result ≡ state_count (circuit_in self.now.parts) }
-    {
-        power_of_two(self.parts.next.len())
-    }
-
-    // How many moves each state has.
-    fn moves(&self) -> usize
-        ensures { result ≡ 2 ^ self.now.parts.inputs }
-    {
-        power_of_two(self.parts.inputs)
-    }
-
-    // Whether s is a state: then it has a move for each content of the inputs, and else none.
-    fn is_state(&self, s: usize) -> bool
-        ensures moves { result ≡ true → 2 ^ self.now.parts.inputs ≡ length (targets_of (circuit_in self.now.parts) s) }
-        ensures none { result ≡ false → 0 ≡ length (targets_of (circuit_in self.now.parts) s) }
-    {
-        s < self.size()
-    }
-
-    // The state to which move k of s goes, if it is there.
-    fn goes_to(&self, s: usize, k: usize) -> usize
-        ensures { k < length (targets_of (circuit_in self.now.parts) s) → result ≡ slice_index (targets_of (circuit_in self.now.parts) s) k }
-    {
-        target(&self.parts, s, k)
     }
 }
 
+// As in `Listed`, each question is put to the parts.
 impl<'a> Table for Register<'a> {
-    ghost meaning = { λ t. meaning_of (circuit_in t.parts) };
+    ghost use Rattle.register.specs.Register.{circuit_held};
 
-    ghost targets = { λ t. targets_of (circuit_in t.parts) };
+    ghost meaning = { λ t. meaning_of (circuit_held t) };
 
-    ghost faithful = { λ t. circuit_faithful (circuit_in t.parts) t.bounded };
+    ghost targets = { λ t. targets_of (circuit_held t) };
+
+    ghost faithful = { λ t. circuit_faithful (circuit_held t) t.bounded };
 
     fn states(&self) -> usize {
-        self.size()
+        self.parts().size()
     }
 
     fn atoms(&self) -> usize {
-        self.parts.atoms.len()
+        self.parts().atoms.len()
     }
 
     fn fairness_sets(&self) -> usize {
-        self.parts.fairness_sets.len()
+        self.parts().fairness_sets.len()
     }
 
     fn is_start(&self, s: usize) -> bool {
-        self.has_value(self.parts.start, s)
+        self.parts().is_start(s)
     }
 
     fn in_atom(&self, j: usize, s: usize) -> bool {
-        self.in_set(self.parts.atoms, j, s)
+        self.parts().in_atom(j, s)
     }
 
     fn in_fairness_set(&self, i: usize, s: usize) -> bool {
-        self.in_set(self.parts.fairness_sets, i, s)
+        self.parts().in_fairness_set(i, s)
     }
 
     fn move_count(&self, s: usize) -> usize {
-        if !self.is_state(s) {
-            return 0;
-        }
-        self.moves()
+        self.parts().move_count(s)
     }
 
     fn target(&self, s: usize, k: usize) -> usize {
-        if k >= self.move_count(s) {
-            return 0;
-        }
-        self.goes_to(s, k)
+        self.parts().target(s, k)
     }
 }

@@ -1,10 +1,11 @@
 -- The bits of a row of bytes, as a list and one by one.
-use Rattle.std.proofs.Common.{◌≡◌, ℕ, zero, suc, ◌+◌, ◌-◌, ◌*◌, ◌/◌, ◌%◌, ◌^◌, ◌<◌, ◌≤◌, Bool, true, false, not, ◌&&◌, eqb, List, [], ◌∷◌, ◌++◌, length, get_or, take, drop, sym, refl, ap, ◌∙◌, ap₂, ⊎_elim, arith}
+use Rattle.std.proofs.Common.{◌≡◌, ℕ, zero, suc, ◌+◌, ◌-◌, ◌*◌, ◌/◌, ◌%◌, ◌^◌, ◌<◌, ◌≤◌, Bool, true, false, not, ◌&&◌, ◌||◌, eqb, List, [], ◌∷◌, ◌++◌, length, get_or, take, drop, sym, refl, ap, ◌∙◌, ap₂, ⊎_elim, arith}
 use native.Mathlib.Nat.{zero-div, two-pow-succ}
 use Rattle.std.proofs.lemmas.Nat.{shr-shr, shr_below}
-use Rattle.std.proofs.lemmas.List.{get_or_append_left, get_or-append_right, get_or-take, get_or_past, length-take, length-append, drop-append-le, drop_at, drop-drop, drop_all, at_drop_more}
-use Rattle.std.proofs.lemmas.Bool.{and_parts, and_from, not-true, not_from_false, cases_lt, cases_Bool, eq-eqb, false≢true}
+use Rattle.std.proofs.lemmas.List.{get_or_append_left, get_or-append_right, length-append, drop-append-le, drop_at, drop-drop, drop_all, get_or-drop, take_rest}
+use Rattle.std.proofs.lemmas.Bool.{and_left, ne_eqb, cases_lt, eq-eqb}
 use Rattle.std.proofs.lemmas.Bool.Decides.{nat_tests}
+use Rattle.std.specs.List.{list_any, list_all, range_with_len}
 use Rattle.stateset.specs.Sets.{bit_at, bits, unpack, none, set_of, clear}
 
 pub length_bits : (m x : ℕ) → length (bits m x) ≡ m
@@ -39,9 +40,6 @@ unpack_bit (b ∷ bs) s = ⊎_elim low (high (unpack_bit bs (s - 8))) (cases_lt 
         let m : (s - 8) % 8 ≡ s % 8 = omega arith in
         get_or-append_right (bits 8 b) (unpack bs) 8 s false (length_bits 8 b) h ∙ more ∙ ap₂ (λ i j. eqb (get_or (b ∷ bs) i 0 / 2 ^ j % 2) 1) d m
 
-pub bit_past : (bs : List ℕ) (s : ℕ) → length bs ≤ s / 8 → bit_at bs s ≡ false
-bit_past bs s h = ap (λ z. eqb (z / 2 ^ (s % 8) % 2) 1) (get_or_past bs (s / 8) 0 h) ∙ ap (λ z. eqb (z % 2) 1) (zero-div (2 ^ (s % 8)))
-
 -- No flag is true: of two lists, of a number's bits, of a row of bytes.
 none_append : (xs ys : List Bool) → none (xs ++ ys) ≡ (none xs && none ys)
 none_append [] ys = refl
@@ -62,12 +60,12 @@ drop_bits (suc m) (suc r) x h =
     let d : m - r ≡ suc m - suc r = omega arith in
     drop_bits m r (x / 2) (omega arith) ∙ ap₂ bits d (shr-shr x 1 r ∙ ap (λ i. x / 2 ^ i) e)
 
--- Byte i of a row, of which the bytes before it are done.
-pub byte_done : (bs : List ℕ) (i : ℕ) → i < length bs → get_or bs i 0 < 256 → none (unpack (drop i bs)) ≡ (eqb (get_or bs i 0) 0 && none (unpack (drop (i + 1) bs)))
-byte_done bs i h small =
-    at_drop_more (λ xs. none (unpack xs)) bs i 0 h
-    ∙ none_append (bits 8 (get_or bs i 0)) (unpack (drop (i + 1) bs))
-    ∙ ap (λ b. b && none (unpack (drop (i + 1) bs))) (none_bits 8 (get_or bs i 0) small)
+-- A row of bytes has no flag where every byte is 0.
+pub none_unpack : (bs : List ℕ) → ((i : ℕ) → i < length bs → get_or bs i 0 < 256) → none (unpack bs) ≡ list_all (λ b. eqb b 0) bs
+none_unpack [] small = refl
+none_unpack (b ∷ bs) small =
+    none_append (bits 8 b) (unpack bs)
+    ∙ ap₂ (λ x y. x && y) (none_bits 8 b (small 0 (omega arith))) (none_unpack bs (λ i h. small (suc i) (omega arith)))
 
 -- From state n on: the bits of its byte from n mod 8 on, then the bytes behind it.
 pub clear_split : (n : ℕ) (bs : List ℕ) → n / 8 < length bs → get_or bs (n / 8) 0 < 256 → clear n bs ≡ (eqb (get_or bs (n / 8) 0 / 2 ^ (n % 8)) 0 && none (unpack (drop (n / 8 + 1) bs)))
@@ -99,27 +97,46 @@ clear_split n (b ∷ bs) h small = ⊎_elim low (λ l. high l (clear_split (n - 
         ∙ ap₂ (λ i j. eqb (get_or (b ∷ bs) i 0 / 2 ^ j) 0 && none (unpack (drop (suc ((n - 8) / 8 + 1)) (b ∷ bs)))) d m
         ∙ ap (λ i. eqb (get_or (b ∷ bs) (n / 8) 0 / 2 ^ (n % 8)) 0 && none (unpack (drop i (b ∷ bs)))) e
 
+-- The two cases: its byte has a bit from n mod 8 on, or the bytes behind it decide.
+pub clear_not : (n : ℕ) (bs : List ℕ) → n / 8 < length bs → get_or bs (n / 8) 0 < 256 → (get_or bs (n / 8) 0 / 2 ^ (n % 8) ≡ 0 → ⊥) → clear n bs ≡ false
+clear_not n bs h small ne = clear_split n bs h small ∙ and_left _ _ (ne_eqb _ 0 ne)
+
+pub clear_rest : (n : ℕ) (bs : List ℕ) → n / 8 < length bs → ((i : ℕ) → get_or bs i 0 < 256) → get_or bs (n / 8) 0 / 2 ^ (n % 8) ≡ 0
+    → clear n bs ≡ list_all (λ b. eqb b 0) (take (length bs - (n / 8 + 1)) (drop (n / 8 + 1) bs))
+clear_rest n bs h small e =
+    clear_split n bs h (small (n / 8))
+    ∙ ap (λ b. b && none (unpack (drop (n / 8 + 1) bs))) (eq-eqb _ 0 e)
+    ∙ none_unpack (drop (n / 8 + 1) bs) (λ i l. let d = get_or-drop (n / 8 + 1) bs i 0 in omega (arith, d, small (n / 8 + 1 + i)))
+    ∙ ap (list_all (λ b. eqb b 0)) (sym (take_rest bs (n / 8 + 1)))
+
 pub clear_past : (n : ℕ) (bs : List ℕ) → length bs ≤ n / 8 → clear n bs ≡ true
 clear_past n bs h = ap none (drop_all n (unpack bs) (omega (arith, length_unpack bs)))
 
+neither : (b c : Bool) → (not b && not c) ≡ not (b || c)
+neither true c = refl
+neither false c = refl
+
+-- The first n flags, asked for by number.
+none_any : (n a : ℕ) (xs : List Bool) (f : ℕ → Bool) → ((i : ℕ) → f (a + i) ≡ get_or xs i false) → none (take n xs) ≡ not (list_any f (range_with_len a n))
+none_any zero a xs f h = refl
+none_any (suc n) a [] f h =
+    sym (none_nil n)
+    ∙ ap₂ (λ b c. not b && c) (sym (first (h 0))) (none_any n (a + 1) [] f (λ i. ap f (omega arith) ∙ h (suc i)))
+    ∙ neither (f a) _
+  where
+    first : f (a + 0) ≡ false → f a ≡ false
+    first e = ap f (omega arith) ∙ e
+
+    none_nil : (m : ℕ) → none (take m []) ≡ true
+    none_nil zero = refl
+    none_nil (suc m) = refl
+none_any (suc n) a (x ∷ xs) f h =
+    ap₂ (λ b c. not b && c) (sym (first (h 0))) (none_any n (a + 1) xs f (λ i. ap f (omega arith) ∙ h (suc i)))
+    ∙ neither (f a) _
+  where
+    first : f (a + 0) ≡ x → f a ≡ x
+    first e = ap f (omega arith) ∙ e
+
 -- The states below n one by one.
-none_all : (xs : List Bool) → none xs ≡ true → (s : ℕ) → get_or xs s false ≡ false
-none_all [] e s = refl
-none_all (x ∷ xs) e zero = not-true x (and_parts (not x) (none xs) e).0
-none_all (x ∷ xs) e (suc s) = none_all xs (and_parts (not x) (none xs) e).1 s
-
-all_none : (xs : List Bool) → ((s : ℕ) → get_or xs s false ≡ false) → none xs ≡ true
-all_none [] h = refl
-all_none (x ∷ xs) h = and_from (not x) (none xs) (not_from_false x (h 0)) (all_none xs (λ s. h (suc s)))
-
-pub none_below : (n : ℕ) (bs : List ℕ) → ((s : ℕ) → s < n → bit_at bs s ≡ false) → none (set_of n bs) ≡ true
-none_below n bs h = all_none (take n (unpack bs)) (λ s. ⊎_elim
-    (λ l. get_or-take n (unpack bs) s false l ∙ unpack_bit bs s ∙ h s l)
-    (λ l. get_or_past (take n (unpack bs)) s false (omega (arith, length-take n (unpack bs))))
-    (cases_lt s n))
-
-pub some_below : (n s : ℕ) (bs : List ℕ) → s < n → bit_at bs s ≡ true → none (set_of n bs) ≡ false
-some_below n s bs h e = ⊎_elim
-    (λ t. let z : false ≡ true = sym (none_all (take n (unpack bs)) t s) ∙ get_or-take n (unpack bs) s false h ∙ unpack_bit bs s ∙ e in absurd (false≢true z))
-    (λ f. f)
-    (cases_Bool (none (take n (unpack bs))))
+pub none_below : (n : ℕ) (bs : List ℕ) → none (set_of n bs) ≡ not (list_any (bit_at bs) (range_with_len 0 n))
+none_below n bs = none_any n 0 (unpack bs) (bit_at bs) (λ i. ap (bit_at bs) (omega arith) ∙ sym (unpack_bit bs i))

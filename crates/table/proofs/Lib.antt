@@ -1,4 +1,5 @@
 pub mod Below
+pub mod Range
 pub mod Targets
 pub mod Counted
 pub mod OneState

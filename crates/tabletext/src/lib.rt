@@ -1,23 +1,10 @@
 // A table as text: its counts, its sets, and a line a state.
 #![tactic(auto)]
 
-ghost use Rattle.std.specs.Prelude.{◌≡◌, Some};
+ghost use Rattle.std.specs.Prelude.{◌≡◌, ℕ, List, Some};
 ghost use Rattle.std.specs.Fmt.{WritesOnOk};
-ghost use Rattle.tabletext.specs.Text.{
-  spaced,
-  member,
-  name_text,
-  member_text,
-  members_text,
-  set_line,
-  targets_text,
-  row_line,
-  counts_text,
-  atoms_text,
-  fairness_text,
-  rows_text,
-  table_text,
-};
+ghost use Rattle.tabletext.specs.Text.{each_below, spaced, member, name_text, set_line, row_line, counts_text, table_text};
+ghost use Rattle.tabletext.specs.Inner.{WritesEachBelow};
 
 use std::fmt;
 use table::Table;
@@ -42,17 +29,6 @@ impl fmt::Display for Set {
     }
 }
 
-// Whether the table has s in the set.
-fn is_member<T: Table>(table: &T, set: Set, s: usize) -> bool
-    ensures { result ≡ member (T.Table.meaning table.now) «set» s }
-{
-    match set {
-        Set::Start => table.is_start(s),
-        Set::Atom(j) => table.in_atom(j, s),
-        Set::Fairness(i) => table.in_fairness_set(i, s),
-    }
-}
-
 // A number in a row of numbers.
 fn write_spaced<W: fmt::Write>(x: usize, f: &mut fmt::Formatter<W>) -> fmt::Result
     ensures { WritesOnOk W.Write.write_str_gives f.old result (spaced x) f.new }
@@ -60,108 +36,19 @@ fn write_spaced<W: fmt::Write>(x: usize, f: &mut fmt::Formatter<W>) -> fmt::Resu
     write!(f, " {x}")
 }
 
-// State s, if it is in the set.
-fn write_member<T: Table, W: fmt::Write>(
-    table: &T,
-    set: Set,
-    s: usize,
+// What `write` writes of each number below n, in order.
+fn write_each<W: fmt::Write, F: Fn(usize, &mut fmt::Formatter<W>) -> fmt::Result>(
+    n: usize,
     f: &mut fmt::Formatter<W>,
+    write: F,
 ) -> fmt::Result
-    ensures { WritesOnOk W.Write.write_str_gives f.old result (member_text (T.Table.meaning table.now) «set» s) f.new }
+    requires { F.IsAlwaysCallable write }
+    ensures { (text : ℕ → List ℕ) → WritesEachBelow W.Write.write_str_gives (F.post write) n text → WritesOnOk W.Write.write_str_gives f.old result (each_below n text) f.new }
 {
-    if is_member(table, set, s) {
-        return write_spaced(s, f);
+    for i in 0..n {
+        write(i, f)?;
     }
     Ok(())
-}
-
-// The states of a set.
-fn write_members<T: Table, W: fmt::Write>(
-    table: &T,
-    set: Set,
-    f: &mut fmt::Formatter<W>,
-) -> fmt::Result
-    ensures { WritesOnOk W.Write.write_str_gives f.old result (members_text (T.Table.meaning table.now) «set») f.new }
-{
-    for s in 0..table.states() {
-        write_member(table, set, s, f)?;
-    }
-    Ok(())
-}
-
-// The line of a set.
-fn write_set<T: Table, W: fmt::Write>(table: &T, set: Set, f: &mut fmt::Formatter<W>) -> fmt::Result
-    ensures { WritesOnOk W.Write.write_str_gives f.old result (set_line (T.Table.meaning table.now) «set») f.new }
-{
-    write!(f, "{set}")?;
-    write_members(table, set, f)?;
-    f.write_str("\n")
-}
-
-// The targets of a state.
-fn write_targets<T: Table, W: fmt::Write>(
-    table: &T,
-    s: usize,
-    f: &mut fmt::Formatter<W>,
-) -> fmt::Result
-    ensures { WritesOnOk W.Write.write_str_gives f.old result (targets_text (T.Table.targets table.now s)) f.new }
-{
-    for k in 0..table.move_count(s) {
-        write_spaced(table.target(s, k), f)?;
-    }
-    Ok(())
-}
-
-// The line of a state.
-fn write_row<T: Table, W: fmt::Write>(table: &T, s: usize, f: &mut fmt::Formatter<W>) -> fmt::Result
-    ensures { WritesOnOk W.Write.write_str_gives f.old result (row_line (T.Table.targets table.now) s) f.new }
-{
-    write!(f, "{s} ->")?;
-    write_targets(table, s, f)?;
-    f.write_str("\n")
-}
-
-// The lines of the atoms.
-fn write_atoms<T: Table, W: fmt::Write>(table: &T, f: &mut fmt::Formatter<W>) -> fmt::Result
-    ensures { WritesOnOk W.Write.write_str_gives f.old result (atoms_text (T.Table.meaning table.now)) f.new }
-{
-    for j in 0..table.atoms() {
-        write_set(table, Set::Atom(j), f)?;
-    }
-    Ok(())
-}
-
-// The lines of the fairness sets.
-fn write_fairness<T: Table, W: fmt::Write>(table: &T, f: &mut fmt::Formatter<W>) -> fmt::Result
-    ensures { WritesOnOk W.Write.write_str_gives f.old result (fairness_text (T.Table.meaning table.now)) f.new }
-{
-    for i in 0..table.fairness_sets() {
-        write_set(table, Set::Fairness(i), f)?;
-    }
-    Ok(())
-}
-
-// The lines of the states.
-fn write_rows<T: Table, W: fmt::Write>(table: &T, f: &mut fmt::Formatter<W>) -> fmt::Result
-    ensures { WritesOnOk W.Write.write_str_gives f.old result (rows_text (T.Table.meaning table.now) (T.Table.targets table.now)) f.new }
-{
-    for s in 0..table.states() {
-        write_row(table, s, f)?;
-    }
-    Ok(())
-}
-
-// The three counts, a line each.
-fn write_counts<T: Table, W: fmt::Write>(table: &T, f: &mut fmt::Formatter<W>) -> fmt::Result
-    ensures { WritesOnOk W.Write.write_str_gives f.old result (counts_text (T.Table.meaning table.now)) f.new }
-{
-    let states = table.states();
-    let atoms = table.atoms();
-    let fairness = table.fairness_sets();
-    write!(
-        f,
-        "states {states}\natoms {atoms}\nfairness sets {fairness}\n"
-    )
 }
 
 // A table of any kind, to be shown as text.
@@ -170,14 +57,66 @@ pub struct TableText<'a, T> {
     pub table: &'a T,
 }
 
+impl<'a, T: Table> TableText<'a, T> {
+    // Whether the table has s in the set.
+    fn in_set(&self, set: Set, s: usize) -> bool
+        ensures { result ≡ member (T.Table.meaning self.now.table.now) «set» s }
+    {
+        match set {
+            Set::Start => self.table.is_start(s),
+            Set::Atom(j) => self.table.in_atom(j, s),
+            Set::Fairness(i) => self.table.in_fairness_set(i, s),
+        }
+    }
+
+    // The three counts, a line each.
+    fn write_counts<W: fmt::Write>(&self, f: &mut fmt::Formatter<W>) -> fmt::Result
+        ensures { WritesOnOk W.Write.write_str_gives f.old result (counts_text (T.Table.meaning self.now.table.now)) f.new }
+    {
+        writeln!(f, "states {}", self.table.states())?;
+        writeln!(f, "atoms {}", self.table.atoms())?;
+        writeln!(f, "fairness sets {}", self.table.fairness_sets())
+    }
+
+    // The line of a set.
+    fn write_set<W: fmt::Write>(&self, set: Set, f: &mut fmt::Formatter<W>) -> fmt::Result
+        ensures { WritesOnOk W.Write.write_str_gives f.old result (set_line (T.Table.meaning self.now.table.now) «set») f.new }
+    {
+        write!(f, "{set}")?;
+        write_each(self.table.states(), f, |s, f| {
+            if self.in_set(set, s) {
+                write_spaced(s, f)
+            } else {
+                Ok(())
+            }
+        })?;
+        writeln!(f)
+    }
+
+    // The line of a state.
+    fn write_row<W: fmt::Write>(&self, s: usize, f: &mut fmt::Formatter<W>) -> fmt::Result
+        ensures { WritesOnOk W.Write.write_str_gives f.old result (row_line (T.Table.targets self.now.table.now) s) f.new }
+    {
+        write!(f, "{s} ->")?;
+        write_each(self.table.move_count(s), f, |k, f| {
+            write_spaced(self.table.target(s, k), f)
+        })?;
+        writeln!(f)
+    }
+}
+
 impl<'a, T: Table> fmt::Display for TableText<'a, T> {
     ghost output = { λ t. Some (table_text (T.Table.meaning t.table.now) (T.Table.targets t.table.now)) };
 
     fn fmt<W: fmt::Write>(&self, f: &mut fmt::Formatter<W>) -> fmt::Result {
-        write_counts(self.table, f)?;
-        write_set(self.table, Set::Start, f)?;
-        write_atoms(self.table, f)?;
-        write_fairness(self.table, f)?;
-        write_rows(self.table, f)
+        self.write_counts(f)?;
+        self.write_set(Set::Start, f)?;
+        write_each(self.table.atoms(), f, |j, f| {
+            self.write_set(Set::Atom(j), f)
+        })?;
+        write_each(self.table.fairness_sets(), f, |i, f| {
+            self.write_set(Set::Fairness(i), f)
+        })?;
+        write_each(self.table.states(), f, |s, f| self.write_row(s, f))
     }
 }

@@ -1,7 +1,7 @@
 use Rattle.std.proofs.Common.{refl}
-use Rattle.listing.specs.Parts.{passes}
+use Rattle.listing.specs.Read.{passes}
 use Rattle.listed.proofs.one_state.Goals as goal
 
-pub returns : goal.returns
+pub invariant_of-result : goal.invariant_of-result
 unfolding passes
-returns c = record { passed = refl; atoms = refl; fairs = refl; counts = refl; targets = refl; table = refl }
+invariant_of-result c = record { passed = refl; counted = refl; targeted = refl }

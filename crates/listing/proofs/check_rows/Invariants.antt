@@ -1,16 +1,12 @@
-use Rattle.std.proofs.Common.{◌≡◌, ◌+◌, ◌≤◌, length}
-use Rattle.listing.specs.Numbers.{u16s}
-use Rattle.listing.specs.Rows.{dealt}
-use Rattle.listing.specs.Inner.{Fills}
+use Rattle.std.proofs.Common.{◌≡◌, ◌+◌, ◌*◌, length, drop}
+use Rattle.listing.specs.Numbers.{numbers}
+use Rattle.listing.specs.Rows.{dealt, last_of, Rises}
 use Rattle.listing.specs.Check.{rows_check}
 use Rattle.listing.proofs.check_rows.Given as goal
 
--- The rows that are left decide it, and their counts fill the targets that are left.
-abbrev pub invariant-loop-ends : goal.invariant-loop-ends
-invariant-loop-ends l =
-    (rows_check l.n l.from (dealt 0 (u16s l.counts) (u16s l.targets)) ≡ rows_check l.n l.place (dealt l.last (u16s l.ends) (u16s l.left)))
-    × Fills l.last (u16s l.ends) (length l.left)
-    × (l.place + length l.left ≤ 65536)
-
-abbrev pub decreases-loop-ends : goal.decreases-loop-ends
-decreases-loop-ends l = length l.ends
+-- The rows that are left decide it, and their counts rise to the last of the targets.
+abbrev pub invariant-loop-end : goal.invariant-loop-end
+invariant-loop-end l =
+    (rows_check l.n l.from (dealt 0 (numbers l.counts) (numbers l.targets)) ≡ rows_check l.n (l.from + 2 * l.first) (dealt l.first (numbers (drop l.end-index l.counts)) (drop l.first (numbers l.targets))))
+    × Rises l.first (numbers (drop l.end-index l.counts))
+    × (last_of l.first (numbers (drop l.end-index l.counts)) ≡ length l.targets)

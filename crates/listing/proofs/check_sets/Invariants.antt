@@ -1,13 +1,10 @@
-use Rattle.std.proofs.Common.{◌≡◌, ◌+◌, ◌*◌, ◌≤◌, length}
+use Rattle.std.proofs.Common.{◌≡◌, ◌+◌, ◌*◌, ◌/◌, ◌≤◌, length}
 use Rattle.listing.specs.Check.{sets_check}
 use Rattle.listing.proofs.check_sets.Given as goal
 
 -- The sets that are left decide it.
-abbrev pub invariant-loop-todo : goal.invariant-loop-todo
-invariant-loop-todo l =
-    (sets_check l.n l.k l.m l.from l.sets ≡ sets_check l.n l.k l.todo l.place l.left)
-    × (l.todo * l.k ≤ length l.left)
-    × (l.place + length l.left ≤ 65536)
-
-abbrev pub decreases-loop-todo : goal.decreases-loop-todo
-decreases-loop-todo l = l.todo
+abbrev pub invariant-loop-j : goal.invariant-loop-j
+invariant-loop-j l =
+    (sets_check l.n l.k (length l.sets / l.k) 4 l.sets ≡ sets_check l.n l.k (length l.j-iterator.iter.rest.now / l.k) (4 + l.j-iterator.count * l.k) l.j-iterator.iter.rest.now)
+    × (l.j-iterator.count * l.k + length l.j-iterator.iter.rest.now ≤ length l.sets)
+    × (l.j-iterator.iter.size ≡ l.k)

@@ -1,14 +1,8 @@
-use Rattle.std.proofs.Common.{◌≡◌, ◌+◌, ◌*◌, ◌≤◌, length}
-use Rattle.circuit.specs.Circuit.{gates_of}
+use Rattle.std.proofs.Common.{◌≡◌, ◌+◌, ◌*◌, map, drop}
 use Rattle.circuit.specs.Read.{gates_check}
+use Rattle.register.specs.Parts.{gate_in}
 use Rattle.register.proofs.read.check_gates.Given as goal
 
--- The check of what is left is the check of all.
-abbrev pub invariant-loop-left : goal.invariant-loop-left
-invariant-loop-left l =
-    (gates_check l.known 5 (gates_of l.gates) ≡ gates_check l.limit l.place (gates_of l.left))
-    × (l.place + length l.left ≤ 405)
-    × (2 * l.limit + length l.left ≤ 430)
-
-abbrev pub decreases-loop-left : goal.decreases-loop-left
-decreases-loop-left l = length l.left
+-- The check of the gates that are left is the check of all.
+abbrev pub invariant-loop-i : goal.invariant-loop-i
+invariant-loop-i l = gates_check l.known 5 (map gate_in l.parts.gates.now) ≡ gates_check (l.known + l.i) (5 + 2 * l.i) (map gate_in (drop l.i l.parts.gates.now))

@@ -1,10 +1,11 @@
-use Rattle.std.proofs.Common.{◌≡◌, ◌+◌, ◌-◌, ◌++◌}
+use Rattle.std.proofs.Common.{◌≡◌, ◌+◌, ◌++◌, length}
 use Rattle.stateset.specs.Sets.{bits}
 use Rattle.register.specs.Inner.{known}
 use Rattle.register.proofs.values.Values.push_bits.Given as goal
 
--- What is known, with the bits that are left, is what is wanted.
+-- The bits so far.
 abbrev pub invariant-loop-i : goal.invariant-loop-i
-invariant-loop-i l =
-    (known l.initial.self ++ bits l.n l.number ≡ known l.self ++ bits (l.n - l.i) l.rest)
-    × (l.self.count ≡ l.initial.self.count + l.i)
+invariant-loop-i l = record {
+  same : known l.self ≡ known l.initial.self ++ bits l.i l.number;
+  long : length (known l.self) ≡ length (known l.initial.self) + l.i;
+}

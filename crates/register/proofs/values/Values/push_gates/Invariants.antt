@@ -1,14 +1,12 @@
-use Rattle.std.proofs.Common.{◌≡◌, ◌+◌, ◌*◌, ◌≤◌, length}
-use Rattle.circuit.specs.Circuit.{gates_of}
+use Rattle.std.proofs.Common.{◌≡◌, ◌+◌, map, length, drop}
 use Rattle.circuit.specs.Values.{with_gates}
+use Rattle.register.specs.Parts.{gate_in}
 use Rattle.register.specs.Inner.{known}
 use Rattle.register.proofs.values.Values.push_gates.Given as goal
 
 -- What is known, with the gates that are left, is what is wanted.
-abbrev pub invariant-loop-left : goal.invariant-loop-left
-invariant-loop-left l =
-    (with_gates (known l.initial.self) (gates_of l.gates) ≡ with_gates (known l.self) (gates_of l.left))
-    × (2 * l.self.count + length l.left ≤ 512)
-
-abbrev pub decreases-loop-left : goal.decreases-loop-left
-decreases-loop-left l = length l.left
+abbrev pub invariant-loop-x : goal.invariant-loop-x
+invariant-loop-x l = record {
+  same : with_gates (known l.self) (map gate_in (drop l.x-index l.gates)) ≡ with_gates (known l.initial.self) (map gate_in l.gates);
+  long : length (known l.self) ≡ length (known l.initial.self) + l.x-index;
+}

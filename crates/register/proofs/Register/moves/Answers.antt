@@ -1,6 +1,0 @@
-use Rattle.std.proofs.Common.{arith}
-use Rattle.register.proofs.Small.{small_of}
-use Rattle.register.proofs.Register.moves.Goals as goal
-
-pub power_of_two-requires : goal.power_of_two-requires
-power_of_two-requires c = omega (arith, (small_of c.args.self.now.parts c.args.self.now.bounded).few_inputs)

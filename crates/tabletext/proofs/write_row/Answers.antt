@@ -1,8 +1,0 @@
-use Rattle.std.proofs.Output.{writes_on_IsOk-append}
-use Rattle.tabletext.proofs.Writing.{went_on}
-use Rattle.tabletext.proofs.write_row.Goals as goal
-
-pub returns : goal.returns
-returns g c =
-    writes_on_IsOk-append g.W.Write.write_str_gives _ _ _ _ _ _ _ (λ _. went_on c.write.result tt c.in_ok-write.was) c.write.ensures.writes
-    (writes_on_IsOk-append g.W.Write.write_str_gives _ _ _ _ _ _ _ (λ _. went_on c.write_targets.result tt c.in_ok-write_targets.was) c.write_targets.ensures c.write_str.ensures.writes)
