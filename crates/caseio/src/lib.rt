@@ -48,9 +48,11 @@ pub fn write_line<A: Allocator, W: Write, D: Display + Drop>(
 ) -> io::Result<()>
     ensures { OnOk result (IfSome (D.output text) (λ whole. Appends (W.contents out.old) (W.contents out.new) (case_line name.now whole))) }
 {
-    let text = format!(in alloc; "{text}")?;
+    let text = format!(in &alloc; "{text}")?;
     let first = first_line(&text);
-    writeln!(out, "{name}: {first}")
+    // made whole first, so that it is handed to the writer by one call, and is not mixed with what others write
+    let line = format!(in &alloc; "{name}: {first}\n")?;
+    out.write_all(line.as_bytes())
 }
 
 #[cfg(test)]
@@ -100,6 +102,13 @@ mod tests {
     }
 
     #[test]
+    fn asks_for_no_byte_past_the_last_that_it_answers(rt: HostRuntime) -> Result<(), Fail> {
+        let reader = io::repeat(7).take(65_537).chain(Failing);
+        assert_eq!(rt; read_case(rt.alloc(), reader)?.len(), 65_537);
+        Ok(())
+    }
+
+    #[test]
     fn fails_where_the_reader_does(rt: HostRuntime) {
         let reader = io::repeat(7).take(20_000).chain(Failing);
         let read = read_case(rt.alloc(), reader);
@@ -107,6 +116,31 @@ mod tests {
             read.map(|bytes| bytes.len()).map_err(|e| e.kind()),
             Err(ErrorKind::PermissionDenied)
         );
+    }
+
+    // A writer that counts its calls.
+    #[derive(Drop)]
+    struct Counting {
+        calls: usize,
+    }
+
+    impl Write for Counting {
+        fn write(&mut self, buf: &[u8]) -> io::Result<usize> {
+            self.calls = self.calls.saturating_add(1);
+            Ok(buf.len())
+        }
+
+        fn flush(&mut self) -> io::Result<()> {
+            Ok(())
+        }
+    }
+
+    #[test]
+    fn writes_a_line_by_one_call(rt: HostRuntime) -> Result<(), Fail> {
+        let mut out = Counting { calls: 0 };
+        write_line(rt.alloc(), &mut out, "a.case", "states 3\natoms 2\n")?;
+        assert_eq!(rt; out.calls, 1);
+        Ok(())
     }
 
     #[test]
