@@ -4,3 +4,4 @@ pub mod Codec
 pub mod Inverse
 pub mod OneState
 pub mod Told
+pub mod Questions

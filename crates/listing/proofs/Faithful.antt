@@ -1,5 +1,5 @@
 -- A lawful listed table is a table: its targets are exactly its moves, and all bounds are kept.
-use Rattle.std.proofs.Common.{◌≡◌, ℕ, zero, suc, ◌+◌, ◌-◌, ◌^◌, ◌<◌, ◌≤◌, Bool, true, false, eqb, List, [], ◌∷◌, ◌++◌, length, get_or, sym, refl, ap, ◌∙◌, subst, inl, inr, ⊎_elim, Ok, Err, Result, arith}
+use Rattle.std.proofs.Common.{◌≡◌, ℕ, zero, suc, ◌+◌, ◌-◌, ◌^◌, ◌<◌, ◌≤◌, Bool, true, false, eqb, List, [], ◌∷◌, ◌++◌, length, get_or, sym, refl, ap, ◌∙◌, subst, inl, inr, ⊎_elim, arith}
 use mathlib.Core.Bool.{false≢true}
 use native.Mathlib.Nat.{pow-le-pow_right}
 use Rattle.std.proofs.lemmas.Nat.{mul-le}
@@ -10,13 +10,11 @@ use Rattle.table.specs.Meaning.{Proper}
 use Rattle.table.specs.Faithful.{Faithful, listed}
 use Rattle.table.proofs.Targets.{listed_at}
 use Rattle.listing.specs.declared.section.Parts.{Parts}
-use Rattle.fault.specs.declared.Fault.{Fault}
-use Rattle.fault.specs.Checks.{mapped, or_else}
 use Rattle.fault.proofs.Order.{was_ok}
 use Rattle.listing.specs.Read.{passes}
 use Rattle.listing.specs.Parts.{listed_in}
 use Rattle.listing.proofs.Passed.{Passed, passed_of, lawful_of}
-use Rattle.listing.specs.Listed.{Listed, Lawful, Sized, Climbs, Rising, meaning_of, targets_of, one_listed}
+use Rattle.listing.specs.Listed.{Listed, Lawful, Sized, Climbs, Rising, meaning_of, targets_of}
 
 -- A flag that is true lies within its list.
 flag_inside : (flags : List Bool) (s : ℕ) → get_or flags s false ≡ true → s < length flags
@@ -98,23 +96,3 @@ parts_passed p = passed_of p.states p.atoms p.fairness_sets p.body.now (was_ok _
 
 pub parts_faithful : (p : Parts) → Faithful (meaning_of (listed_in p)) (targets_of (listed_in p))
 parts_faithful p = lawful_faithful (listed_in p) (lawful_of p.states p.atoms p.fairness_sets p.body.now (parts_passed p))
-
--- So is what stands for a section: the one-state table where it was refused.
-one_lawful : Lawful one_listed
-one_lawful = record {
-  some_state = omega arith;
-  few_states = omega arith;
-  few_atoms = omega arith;
-  some_fair = omega arith;
-  few_fairs = omega arith;
-  starts_sized = refl;
-  sets_sized = (refl, tt);
-  row_each = refl;
-  rising = (omega arith, (omega arith, omega arith, tt), tt);
-  few_moves = omega arith;
-  some_start = refl;
-}
-
-pub read_faithful : (r : Result Parts Fault) → Faithful (meaning_of (or_else one_listed (mapped listed_in r))) (targets_of (or_else one_listed (mapped listed_in r)))
-read_faithful (Ok p) = parts_faithful p
-read_faithful (Err e) = lawful_faithful one_listed one_lawful

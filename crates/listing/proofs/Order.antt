@@ -1,7 +1,6 @@
 -- The checks in their order, at the offsets that the code has.
 use Rattle.std.proofs.Common.{◌≡◌, ℕ, zero, suc, ◌+◌, ◌-◌, ◌*◌, ◌/◌, ◌<◌, cond, not, List, [], ◌∷◌, ◌++◌, length, take, drop, Ok, Err, sym, refl, ap, ◌∙◌, ap₂, suc-mul, add-one, arith}
 use Rattle.std.proofs.Math.Nat.{mul-div_left}
-use Rattle.std.specs.Simd.{first_chunks}
 use Rattle.std.proofs.lemmas.List.{take_rest, drop-drop, take-take, drop-take, length-take-le}
 use Rattle.fault.specs.declared.Cause.TheVariants.{StrayBit, NoStart}
 use Rattle.fault.specs.Faults.{fault}
@@ -10,7 +9,7 @@ use Rattle.fault.specs.declared.Fault.{Fault}
 use Rattle.fault.proofs.Order.{first_append}
 use Rattle.stateset.specs.Sets.{none, set_of, clear}
 use Rattle.stateset.proofs.Pairs.{in_pairs as two_by_two}
-use Rattle.listing.specs.Numbers.{u16s, numbers}
+use Rattle.listing.specs.Numbers.{u16s, numbers, pairs}
 use Rattle.listing.specs.Sets.{width, past}
 use Rattle.listing.specs.Check.{sets_check}
 use Rattle.listing.specs.Read.{count_bytes, target_bytes, table_of, size_checks, move_checks, body_check, read_body}
@@ -32,7 +31,7 @@ sets_part n k (suc m) place bs =
 
 -- The numbers of a row of bytes that is cut into pairs.
 abbrev pub in_pairs : List ℕ → List ℕ
-in_pairs bs = numbers (first_chunks 2 (length bs / 2) bs)
+in_pairs bs = numbers (pairs bs)
 
 pub numbers_are : (bs : List ℕ) → in_pairs bs ≡ u16s bs
 numbers_are bs = two_by_two _ u16s refl (λ x. refl) (λ x y xs. refl) bs
@@ -52,12 +51,12 @@ module _ (n a b : ℕ) (rest : List ℕ) where
   after_sets : past (width n) (suc (a + b)) rest ≡ drop counts_from rest
   after_sets = past_drop (width n) (suc (a + b)) rest ∙ ap (λ m. drop (m * width n) rest) (sym (add-one (a + b)))
 
-  counts_are : take (targets_from - counts_from) (drop counts_from rest) ≡ count_bytes n a b rest
+  pub counts_are : take (targets_from - counts_from) (drop counts_from rest) ≡ count_bytes n a b rest
   counts_are =
       let e : targets_from - counts_from ≡ 2 * n = omega arith in
       ap₂ take e (sym after_sets)
 
-  targets_are : take (length rest - targets_from) (drop targets_from rest) ≡ target_bytes n a b rest
+  pub targets_are : take (length rest - targets_from) (drop targets_from rest) ≡ target_bytes n a b rest
   targets_are = take_rest rest targets_from ∙ sym (drop-drop (2 * n) counts_from rest) ∙ ap (drop (2 * n)) (sym after_sets)
 
   -- The same as numbers, two bytes each.

@@ -5,15 +5,16 @@ use Rattle.std.proofs.lemmas.List.{get_or-drop, get_or_past, take-map, drop-map}
 use Rattle.stateset.specs.Sets.{bit_at, unpack}
 use Rattle.stateset.proofs.Flags.{unpack_bit}
 use Rattle.listing.specs.declared.section.Parts.{Parts}
-use Rattle.listing.specs.Numbers.{numbers}
+use Rattle.listing.specs.Numbers.{u16s, numbers}
 use Rattle.listing.specs.Sets.{width}
 use Rattle.listing.specs.Rows.{dealt, last_of, Rises}
 use Rattle.listing.specs.Listed.{meaning_of, targets_of}
-use Rattle.listing.specs.Read.{others}
-use Rattle.listing.specs.Parts.{listed_in, sets_in}
+use Rattle.listing.specs.Read.{count_bytes, target_bytes, others}
+use Rattle.listing.specs.Parts.{listed_in, sets_in, Formed}
 use Rattle.listing.proofs.Passed.{Passed, atoms_counted, fairs_counted, counts_long, targets_long, length_dealt}
 use Rattle.listing.proofs.Dealing.{length_numbers}
 use Rattle.listing.proofs.Faithful.{parts_passed}
+use Rattle.listing.proofs.Order.{numbers_are}
 use Rattle.listing.proofs.Places.{set_at, flag_below, flag_past, row_bounds, row_at}
 
 module _ (p : Parts) where
@@ -51,6 +52,10 @@ module _ (p : Parts) where
   pub fairs_are : b ≡ (meaning_of (listed_in p)).fairs
   fairs_are = fairs_counted n a b rest
 
+  -- All that is promised of parts that were read holds of each, since their type keeps it.
+  pub formed : Formed p
+  formed = record { passed = p.passed; atoms = atoms_are; fairs = fairs_are; counts = p.counted; targets = p.targeted }
+
   -- Set j, of all sets, lies within the body, and its flags are the set's.
   pub set_room : (j : ℕ) → j < suc (a + b) → j * width n + width n ≤ length rest
   set_room j h = omega (arith, mul-le (suc j) (width n) (suc (a + b)) (width n) (omega arith) (omega arith), suc-mul j (width n), passed.room)
@@ -77,18 +82,24 @@ module _ (p : Parts) where
   pub fair_none : (i s : ℕ) → b ≤ i → false ≡ (meaning_of (listed_in p)).fair i s
   fair_none i s h = sym (ap (λ flags. get_or flags s false) (get_or_past (drop a (others n a b rest)) i [] (omega (arith, fairs_are))))
 
+  counted : cs ≡ u16s (count_bytes n a b rest)
+  counted = ap numbers p.counted ∙ numbers_are (count_bytes n a b rest)
+
+  targeted : ts ≡ u16s (target_bytes n a b rest)
+  targeted = ap numbers p.targeted ∙ numbers_are (target_bytes n a b rest)
+
   -- The counts of moves: one a state, rising, the last of them the count of targets.
   rise : Rises 0 cs
-  rise = subst (Rises 0) (sym p.counted) passed.rise
+  rise = subst (Rises 0) (sym counted) passed.rise
 
   many : length cs ≡ n
-  many = ap length p.counted ∙ counts_long n a b rest passed
+  many = ap length counted ∙ counts_long n a b rest passed
 
   full : last_of 0 cs ≡ length ts
-  full = ap (last_of 0) p.counted ∙ sym (targets_long n a b rest passed) ∙ sym (ap length p.targeted)
+  full = ap (last_of 0) counted ∙ sym (targets_long n a b rest passed) ∙ sym (ap length targeted)
 
   rows_are : dealt 0 cs ts ≡ (listed_in p).rows
-  rows_are = ap₂ (dealt 0) p.counted p.targeted
+  rows_are = ap₂ (dealt 0) counted targeted
 
   pub count_room : (s : ℕ) → s < n → s < length p.counts.now
   count_room s h = omega (arith, many, length_numbers p.counts.now)

@@ -1,5 +1,6 @@
 -- Numbers of 16 bits, the low byte first.
-use Rattle.std.specs.Prelude.{ℕ, ◌+◌, ◌*◌, ◌/◌, ◌%◌, List, [], ◌∷◌, map, slice_index}
+use Rattle.std.specs.Prelude.{ℕ, ◌+◌, ◌*◌, ◌/◌, ◌%◌, List, [], ◌∷◌, map, length, slice_index}
+use Rattle.std.specs.Simd.{first_chunks}
 
 abbrev pub put16s : List ℕ → List ℕ
 put16s [] = []
@@ -13,3 +14,7 @@ u16s (low ∷ high ∷ bytes) = (low + high * 256) ∷ u16s bytes
 
 abbrev pub numbers : List (List ℕ) → List ℕ
 numbers pairs = map (λ b. slice_index b 0 + slice_index b 1 * 256) pairs
+
+-- A row of bytes, cut into pairs.
+abbrev pub pairs : List ℕ → List (List ℕ)
+pairs bytes = first_chunks 2 (length bytes / 2) bytes

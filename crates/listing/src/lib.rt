@@ -8,7 +8,7 @@ ghost use Rattle.listing.specs.Numbers.{numbers};
 ghost use Rattle.listing.specs.Rows.{dealt, last_of, Rises};
 ghost use Rattle.listing.specs.Check.{sets_check, counts_check, row_check, rows_check};
 ghost use Rattle.listing.specs.Read.{size_checks, read_body as body_read, read_of};
-ghost use Rattle.listing.specs.Parts.{listed_in};
+ghost use Rattle.listing.specs.Parts.{listed_in, Formed};
 ghost use Rattle.listing.specs.Inner.{number_checks, Sizes};
 ghost use Rattle.listing.specs.Layout.{AcceptedIsLayout, LayoutIsAccepted};
 
@@ -143,6 +143,7 @@ fn read_body(rest: &[u8], n: Counts) -> Result<Parts<'_>, Fault>
 #[tactic(auto, using(crate::proofs::Inverse::layout_is_accepted, stateset::proofs::Flags::unpack_bit))]
 pub fn read(section: &[u8]) -> Result<Parts<'_>, Fault>
     ensures value { mapped listed_in result ≡ read_of section.now }
+    ensures formed { IfOk result Formed }
     ensures place { IfErr result (λ e. e.place ≤ 65536) }
     ensures accepted { AcceptedIsLayout }
     ensures lawful { LayoutIsAccepted }

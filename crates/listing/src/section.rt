@@ -1,6 +1,6 @@
 // A section of a listed table, where it lies, and what it answers.
 ghost use Rattle.std.specs.Prelude.{◌≡◌, suc, ◌+◌, ◌*◌, ◌<◌, ◌≤◌, true, false, [], ◌∷◌, length, slice_index, slice_index_or};
-ghost use Rattle.listing.specs.Numbers.{u16s, numbers};
+ghost use Rattle.listing.specs.Numbers.{numbers, pairs};
 ghost use Rattle.listing.specs.Read.{count_bytes, target_bytes, passes};
 
 // A section that passed its checks, cut into its parts.
@@ -16,8 +16,8 @@ pub struct Parts<'a> {
     // the targets, the low byte first
     pub targets: &'a [[u8; 2]],
     ghost passed: { passes states atoms fairness_sets body.now ≡ true },
-    ghost counted: { numbers counts.now ≡ u16s (count_bytes states atoms fairness_sets body.now) },
-    ghost targeted: { numbers targets.now ≡ u16s (target_bytes states atoms fairness_sets body.now) },
+    ghost counted: { counts.now ≡ pairs (count_bytes states atoms fairness_sets body.now) },
+    ghost targeted: { targets.now ≡ pairs (target_bytes states atoms fairness_sets body.now) },
 }
 
 // The number in two bytes, the low byte first.

@@ -1,15 +1,13 @@
 -- What a register table is.
 use Rattle.std.specs.Prelude.{Option}
 use Rattle.fault.specs.declared.Fault.{Fault}
-use Rattle.fault.specs.Checks.{mapped, or_else, fault_in}
 use Rattle.circuit.specs.Circuit.{Circuit}
-use Rattle.circuit.specs.Table.{one_circuit}
 use Rattle.register.specs.declared.Register.{Register}
 use Rattle.register.specs.Parts.{circuit_in}
 
 -- The circuit that its section lays out, or the one-state circuit; and why the section was refused, if it was.
 abbrev pub circuit_held : Register → Circuit
-circuit_held t = or_else one_circuit (mapped circuit_in t.read)
+circuit_held t = circuit_in t.parts
 
 abbrev pub refusal : Register → Option Fault
-refusal t = fault_in t.read
+refusal t = t.fault

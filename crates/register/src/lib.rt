@@ -1,7 +1,7 @@
 // Register tables: a table whose states are the contents of registers, in the bytes of a section.
 #![tactic(auto)]
 
-ghost use Rattle.std.specs.Prelude.{◌≡◌, ◌≤◌, true, Err, IfSome, IfErr};
+ghost use Rattle.std.specs.Prelude.{◌≡◌, ◌≤◌, true, Err, IfSome, IfOk, IfErr, None};
 ghost use Rattle.fault.specs.Checks.{mapped, or_else, fault_in};
 ghost use Rattle.table.specs.Same.{SameMeaning};
 ghost use Rattle.table.specs.OneState.{one_state};
@@ -23,9 +23,11 @@ mod values;
 // A table for any bytes: the circuit that a section lays out, or the one-state table where the section is refused.
 #[derive(Clone, Copy)]
 pub struct Register<'a> {
-    // what the section lays out, or why it was refused
-    read: Result<Parts<'a>, Fault>,
-    ghost bounded: { usable (or_else one_circuit (mapped circuit_in read)) ≡ true },
+    // what the section lays out, or the parts of the one-state circuit; as in `Listed`, no question asks which
+    parts: Parts<'a>,
+    // why the section was refused, if it was
+    fault: Option<Fault>,
+    ghost bounded: { usable (circuit_in parts) ≡ true },
 }
 
 // The circuit without registers: one state.
@@ -57,8 +59,12 @@ impl<'a> Register<'a> {
         ensures lawful { LayoutIsAccepted }
         ensures values { ValuesAre }
     {
-        Register {
-            read: read(section),
+        match read(section) {
+            Ok(parts) => Register { parts, fault: None },
+            Err(fault) => Register {
+                parts: one_state(),
+                fault: Some(fault),
+            },
         }
     }
 
@@ -66,30 +72,21 @@ impl<'a> Register<'a> {
     #[tactic(auto, using(crate::proofs::Laws::laws))]
     pub fn read(section: &'a [u8]) -> Result<Register<'a>, Fault>
         ensures circuit { mapped circuit_held result ≡ read_of section.now }
+        ensures fault { IfOk result (λ t. refusal t ≡ None) }
         ensures place { IfErr result (λ e. e.place ≤ 65536) }
         ensures accepted { AcceptedIsLayout }
         ensures lawful { LayoutIsAccepted }
         ensures values { ValuesAre }
     {
         let parts = read(section)?;
-        Ok(Register { read: Ok(parts) })
+        Ok(Register { parts, fault: None })
     }
 
     // Why the section was refused, if it was; the place is an offset in the section.
     pub fn fault(&self) -> Option<Fault>
         ensures { result ≡ refusal self.now }
     {
-        self.read.err()
-    }
-
-    // The parts of the circuit that the table is.
-    fn parts(&self) -> Parts<'a>
-        ensures { circuit_in result ≡ circuit_held self.now }
-    {
-        match self.read {
-            Ok(parts) => parts,
-            Err(_) => one_state(),
-        }
+        self.fault
     }
 }
 
@@ -104,34 +101,34 @@ impl<'a> Table for Register<'a> {
     ghost faithful = { λ t. circuit_faithful (circuit_held t) t.bounded };
 
     fn states(&self) -> usize {
-        self.parts().size()
+        self.parts.size()
     }
 
     fn atoms(&self) -> usize {
-        self.parts().atoms.len()
+        self.parts.atoms.len()
     }
 
     fn fairness_sets(&self) -> usize {
-        self.parts().fairness_sets.len()
+        self.parts.fairness_sets.len()
     }
 
     fn is_start(&self, s: usize) -> bool {
-        self.parts().is_start(s)
+        self.parts.is_start(s)
     }
 
     fn in_atom(&self, j: usize, s: usize) -> bool {
-        self.parts().in_atom(j, s)
+        self.parts.in_atom(j, s)
     }
 
     fn in_fairness_set(&self, i: usize, s: usize) -> bool {
-        self.parts().in_fairness_set(i, s)
+        self.parts.in_fairness_set(i, s)
     }
 
     fn move_count(&self, s: usize) -> usize {
-        self.parts().move_count(s)
+        self.parts.move_count(s)
     }
 
     fn target(&self, s: usize, k: usize) -> usize {
-        self.parts().target(s, k)
+        self.parts.target(s, k)
     }
 }

@@ -70,12 +70,15 @@ impl<'a> Parts<'a> {
         s < self.size() && self.evaluate(s, 0).value(v)
     }
 
-    // Whether s is in the set that entry j of a row of value numbers names; an entry that is not there is value 0, which is
-    // false.
+    // Whether s is in the set that entry j of a row of value numbers names. An entry that is not there holds nowhere; no gate
+    // is evaluated to tell that.
     fn in_set(&self, names: &[u8], j: usize, s: usize) -> bool
         ensures { result ≡ holding (circuit_in self.now) (slice_index names.now j) s }
     {
-        self.holds(names.get(j).copied().unwrap_or(0), s)
+        match names.get(j) {
+            Some(name) => self.holds(*name, s),
+            None => false,
+        }
     }
 
     // Whether s is a start state.

@@ -1,10 +1,10 @@
 use Rattle.std.proofs.Common.{◌≡◌, Ok, Err, sym, refl, ap, ◌∙◌, rules}
 use Rattle.fault.specs.declared.Fault.{Fault}
 use Rattle.fault.specs.Checks.{is_ok, mapped, given}
-use Rattle.listing.specs.Numbers.{numbers}
+use Rattle.listing.specs.Numbers.{pairs}
 use Rattle.listing.specs.Read.{table_of, passes}
 use Rattle.listing.specs.Parts.{listed_in}
-use Rattle.listing.proofs.Order.{moves_made, start_made, made, counted, targeted, told, refused}
+use Rattle.listing.proofs.Order.{moves_made, start_made, made, counts_are, targets_are, told, refused}
 use Rattle.listing.proofs.read_body.Goals as goal
 
 pub returns-in_err-check_sets : goal.returns-in_err-check_sets
@@ -43,8 +43,8 @@ invariant_of-result c =
     record {
       passed = ap is_ok (told n a b rest c.in_ok-check_sizes.ensures.sizes _ _ _ _ (Ok tt) c.check_sizes.ensures.value c.check_sets.ensures moves start
           (λ i. made (c.in_ok-check_sizes.was i) (c.in_ok-check_sets.was i) (c.in_ok-check_moves.was i) (c.in_ok-need.was i)));
-      counted = ap numbers c.as_chunks.ensures.front ∙ counted n a b rest;
-      targeted = ap numbers c.as_chunks-2.ensures.front ∙ targeted n a b rest;
+      counted = c.as_chunks.ensures.front ∙ ap pairs (counts_are n a b rest);
+      targeted = c.as_chunks-2.ensures.front ∙ ap pairs (targets_are n a b rest);
     }
 
 pub returns : goal.returns
